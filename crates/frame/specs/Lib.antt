@@ -1,0 +1,4 @@
+pub mod Classes
+pub mod Refusals
+pub mod Numbers
+pub mod Frames
