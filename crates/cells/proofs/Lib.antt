@@ -1,0 +1,4 @@
+pub mod Digits
+pub mod Drained
+pub mod Marks
+pub mod Turns

@@ -1,0 +1,3 @@
+pub mod Alternation
+pub mod Examples
+pub mod Places

@@ -1,0 +1,3 @@
+pub mod GateLists
+pub mod Loads
+pub mod Parities
