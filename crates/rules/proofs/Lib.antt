@@ -1,0 +1,12 @@
+pub mod Totals
+pub mod Moves
+pub mod Calls
+pub mod Steps
+pub mod Pasts
+pub mod Walks
+pub mod Waits
+pub mod Orders
+pub mod Sums
+pub mod Laws
+pub mod Examples
+pub mod Edges
