@@ -2,3 +2,4 @@ pub mod Digits
 pub mod Drained
 pub mod Marks
 pub mod Turns
+pub mod FreeCells

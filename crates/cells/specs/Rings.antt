@@ -6,7 +6,7 @@ use lib.ListN.{drop, replicate, set, take}
 use Rattle.cells.specs.Stores.{cell-count}
 
 -- the n entries from place h on, where the first entry follows the last
-abbrev pub turn : List ℕ → ℕ → ℕ → List ℕ
+abbrev pub turn : {E : Type 0} → List E → ℕ → ℕ → List E
 turn entries h n = take n (drop h (entries ++ entries))
 
 unfoldable pub none-free : List Bool

@@ -2,7 +2,7 @@ use mathlib.Core.Path.{refl, ap, _∙_}
 use native.Mathlib.Omega.{arith}
 use Rattle.cells.specs.Rings.{marked}
 use Rattle.cells.specs.Stores.{all-free}
-use Rattle.cells.proofs.Turns.{first-marked, turn-all}
+use Rattle.cells.proofs.FreeCells.{first-marked, turn-all}
 use Rattle.cells.proofs.rings.methods.RingStore.fresh.Needs as need
 
 pub ghost-result : need.ghost-result

@@ -1,7 +1,7 @@
 use mathlib.Core.Path.{refl, sym}
 use native.Mathlib.Omega.{arith}
 use Rattle.cells.proofs.Marks.{back-made}
-use Rattle.cells.proofs.Turns.{given, ring-sound}
+use Rattle.cells.proofs.FreeCells.{given, ring-sound}
 use Rattle.cells.proofs.rings.methods.RingStore.give_back.Needs as need
 
 pub add-tail : need.add-tail

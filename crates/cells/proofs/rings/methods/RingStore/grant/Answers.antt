@@ -1,7 +1,7 @@
 use mathlib.Core.Path.{refl, sym, ap}
 use native.Mathlib.Omega.{arith}
 use Rattle.cells.specs.Orders.{granted-first}
-use Rattle.cells.proofs.Turns.{ring-sound, taken}
+use Rattle.cells.proofs.FreeCells.{ring-sound, taken}
 use Rattle.cells.proofs.rings.methods.RingStore.grant.Needs as need
 
 pub index-self-cell : need.index-self-cell

@@ -1,0 +1,14 @@
+pub mod Turns
+pub mod Parts
+pub mod Lines
+pub mod Places
+pub mod FourPorts
+pub mod Sums
+pub mod Soundness
+pub mod Rooms
+pub mod Views
+pub mod Changes
+pub mod Leaving
+pub mod Placing
+pub mod Reading
+pub mod Held

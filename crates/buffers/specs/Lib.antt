@@ -1,0 +1,9 @@
+pub mod Queues
+pub mod Memories
+pub mod Lines
+pub mod Boards
+pub mod Notes
+pub mod Entries
+pub mod Endings
+pub mod Holdings
+pub mod Sent
