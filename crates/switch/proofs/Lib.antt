@@ -1,0 +1,9 @@
+pub mod Checks
+pub mod Cells
+pub mod Found
+pub mod Lengths
+pub mod Ports
+pub mod Emptied
+pub mod Each
+pub mod Laid
+pub mod Admitted
