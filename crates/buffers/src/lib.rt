@@ -1,4 +1,6 @@
 // What the switch holds beside its store and its kinds: queues, frame memory and ports, and how they hang together.
+#![tactic(auto)]
+
 pub mod boards;
 pub mod buffers;
 pub mod endings;

@@ -1,5 +1,7 @@
 // Prints, for each record of a planner input, one line that a person can read.
 // explain [FILE]: without a file, standard input is read.
+#![tactic(auto)]
+
 use crate::directions::Directions;
 use crate::lines::Line;
 use inputs::read_input;

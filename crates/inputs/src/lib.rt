@@ -1,5 +1,7 @@
 // How the programs get a planner input: from the file named by the first argument, or from standard input where none
 // is named.
+#![tactic(auto)]
+
 use records::cursors::LONGEST_INPUT;
 use std::fs::File;
 use std::io::Read;

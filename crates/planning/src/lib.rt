@@ -1,3 +1,5 @@
 // The planner: a schedule from the switch's own code.
+#![tactic(auto)]
+
 pub mod sessions;
 pub mod tables;

@@ -1,4 +1,6 @@
 // The rules of the switch as mathematics: its definition, and what holds of every run of it.
+#![tactic(auto)]
+
 ghost use Rattle.std.specs.Prelude.{◌≡◌, true};
 ghost use Rattle.rules.specs.Edges.{Edges};
 ghost use Rattle.rules.specs.Laws.{LawsHold};
