@@ -1,5 +1,5 @@
 -- The class of a frame. Assumes nothing.
-use Rattle.std.specs.Prelude.{ℕ, Bool, true, false, cond, ◌&&◌, ◌==◌, nat_le}
+use Rattle.std.specs.Prelude.{ℕ, Bool, cond, ◌&&◌, ◌==◌, nat_le}
 use Rattle.frame.specs.declared.classes.Class.{Class}
 use Rattle.frame.specs.declared.classes.Class.TheVariants.{BestEffort, Reserved, Clock, TimeSensitive}
 

@@ -1,5 +1,5 @@
 -- How a frame is read. A frame is its bytes, without preamble and check sequence. Assumes nothing.
-use Rattle.std.specs.Prelude.{ℕ, ◌/◌, Bool, true, false, cond, List, length, drop, ◌==◌, slice_index}
+use Rattle.std.specs.Prelude.{ℕ, ◌/◌, Bool, cond, List, length, drop, ◌==◌, slice_index}
 use Rattle.frame.specs.Classes.{from_to, class_of}
 use Rattle.frame.specs.Numbers.{number_at}
 use Rattle.frame.specs.Refusals.{Told, accepted, refused}

@@ -6,9 +6,9 @@ use Rattle.cells.proofs.stores.drain.Goals as goal
 pub loop-turn-init : goal.loop-turn-init
 loop-turn-init g c = came_none (g.S.Store.marks c.args.store.now)
 
-pub returns-in-default : goal.returns-in-default
-returns-in-default g c =
-    let refused = c.in-default.ensures.answer in
+pub returns-in_default : goal.returns-in_default
+returns-in_default g c =
+    let refused = c.in_default.ensures.answer in
     record {
       answer = came_all c.loop-turn.invariant (g.met.S.Store.wide c.args.store.now) refused.0;
       state = none_left (g.S.Store.marks c.loop-turn.store) (g.S.Store.marks c.grant.new.self) refused.0 refused.3;

@@ -15,4 +15,4 @@ returns-then-ne g c =
 
 pub returns : goal.returns
 returns g c =
-    c.is-err.ensures.value ∙ grant_ends _ _ c.grant.result c.drain-came.ensures.state c.grant.ensures.answer
+    c.is_err.ensures.value ∙ grant_ends _ _ c.grant.result c.drain-came.ensures.state c.grant.ensures.answer

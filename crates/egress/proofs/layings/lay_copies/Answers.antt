@@ -10,8 +10,8 @@ use Rattle.egress.proofs.layings.lay_copies.Goals as goal
 pub loop-number-init : goal.loop-number-init
 loop-number-init c = laying_none c.args.buffers.now c.args.ports.bits c.args.queue.number c.args.cell.0 c.requires.copies
 
-pub lay-at-requires : goal.lay-at-requires
-lay-at-requires c =
+pub lay_at-requires : goal.lay_at-requires
+lay_at-requires c =
     let port = (named_is c.loop-number.number c.unwrap.result.number (sym (ap (told port_number) c.unwrap.ensures) ∙ c.new.ensures)).1 in
     record {
       cell = c.requires.cell;
@@ -22,7 +22,7 @@ lay-at-requires c =
 pub loop-number-preserved : goal.loop-number-preserved
 loop-number-preserved c =
     let port = (named_is c.loop-number.number c.unwrap.result.number (sym (ap (told port_number) c.unwrap.ensures) ∙ c.new.ensures)).1 in
-    let lay = c.lay-at.ensures in
+    let lay = c.lay_at.ensures in
     laying_on c.unwrap.result.number c.loop-number.invariant port (record { ports = lay.state; cells = lay.cells; number = lay.number; frames = lay.frames; copies = lay.copies })
 
 pub returns : goal.returns

@@ -10,8 +10,8 @@ pub returns : goal.returns
 returns g c =
     let p : ℕ = c.args.port.number in
     let k : ℕ = c.args.queue.number in
-    let ended = c.end-queue-late.ensures in
-    let set = c.set-tokens.ensures in
+    let ended = c.end_queue-late.ensures in
+    let set = c.set_tokens.ensures in
     let tokens : (d : ℕ) → c.refill.result ≡ refilled c.args.rate c.args.depth (egress d c.args.buffers.now p).tokens =
     λ d. c.refill.ensures
     ∙ ap (refilled c.args.rate c.args.depth) (c.tokens.ensures d ∙ ap (λ f. (f p).tokens) (ended.state d) ∙ ap (λ e. e.tokens) (put_here (egress d c.args.buffers.now) p (with_queue (egress d c.args.buffers.now p) k []))) in
@@ -24,6 +24,6 @@ returns g c =
           ∙ changed_twice before p (λ e. with_queue e k []) (λ e. with_tokens e c.refill.result)
           ∙ (λ i. put before p (with_tokens (with_queue (before p) k []) (tokens d i)));
       number = set.number ∙ ended.number;
-      contents = freed_same ended.contents (same_contents c.end-queue-late.new.buffers c.set-tokens.new.self set.frames set.cells);
+      contents = freed_same ended.contents (same_contents c.end_queue-late.new.buffers c.set_tokens.new.self set.frames set.cells);
       sound = agree_moved _ _ _ (sym set.cells) ended.sound;
     }

@@ -12,19 +12,19 @@ pub loop-number-init : goal.loop-number-init
 loop-number-init g c =
     (λ d. turned_none (egress d c.args.buffers.now) c.args.queue.number c.args.rate c.args.depth, refl, c.requires, none_freed _)
 
-pub turn-port-late-requires : goal.turn-port-late-requires
-turn-port-late-requires g c = c.loop-number.invariant.2
+pub turn_port-late-requires : goal.turn_port-late-requires
+turn_port-late-requires g c = c.loop-number.invariant.2
 
-pub overflow-add-late : goal.overflow-add-late
-overflow-add-late g c =
+pub overflow_add-late : goal.overflow_add-late
+overflow_add-late g c =
     let so_far = (c.loop-number.invariant.0 0).counted in
-    omega (arith, so_far, c.loop-number-test.true, late_few c.args.buffers.now 0 c.args.queue.number c.loop-number.number, c.turn-port-late.ensures.answer 0, queue_few c.loop-number.buffers 0 c.unwrap.result.number c.args.queue.number)
+    omega (arith, so_far, c.loop-number-test.true, late_few c.args.buffers.now 0 c.args.queue.number c.loop-number.number, c.turn_port-late.ensures.answer 0, queue_few c.loop-number.buffers 0 c.unwrap.result.number c.args.queue.number)
 
 pub loop-number-preserved : goal.loop-number-preserved
 loop-number-preserved g c =
     let port = (named_is c.loop-number.number c.unwrap.result.number (sym (ap (told port_number) c.unwrap.ensures) ∙ c.new.ensures)).1 in
-    let turn = c.turn-port-late.ensures in
-    (λ d. turned_on c.unwrap.result.number c.turn-port-late.result (c.loop-number.invariant.0 d) port (turn.answer d) (turn.state d), turn.number ∙ c.loop-number.invariant.1, turn.sound, freed_on c.loop-number.invariant.3 turn.contents)
+    let turn = c.turn_port-late.ensures in
+    (λ d. turned_on c.unwrap.result.number c.turn_port-late.result (c.loop-number.invariant.0 d) port (turn.answer d) (turn.state d), turn.number ∙ c.loop-number.invariant.1, turn.sound, freed_on c.loop-number.invariant.3 turn.contents)
 
 pub returns : goal.returns
 returns g c =

@@ -15,8 +15,8 @@ returns c =
     let n : ℕ = c.args.overdrawn in
     let before : ℕ → ℕ → Egress = λ d. egress d c.args.buffers.now in
     let opens : c.args.gates.best_effort ≡ true = not-false _ c.if-not-gates.false in
-    let take = c.take-first-taken.ensures in
-    let queue : c.best-effort-queue.result.number ≡ 3 = c.best-effort-queue.ensures in
+    let take = c.take_first-taken.ensures in
+    let queue : c.best_effort_queue.result.number ≡ 3 = c.best_effort_queue.ensures in
     let first = λ (d : ℕ). best_effort_first (before d p) n ((before d p).queue 3) refl (c.requires d) in
     record {
       answer = λ d. (λ i. (take.answer d i, n)) ∙ (λ i. (option_map copy_sent (first_of ((before d p).queue (queue i))), n)) ∙ (first d).0 ∙ ap (λ o. shows (best_effort_part_lem o (before d p) n)) (sym opens);

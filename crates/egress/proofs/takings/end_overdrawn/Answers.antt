@@ -12,18 +12,18 @@ use Rattle.egress.proofs.takings.end_overdrawn.Goals as goal
 pub loop-port-init : goal.loop-port-init
 loop-port-init g c = (λ d. cut_none (egress d c.args.buffers.now) _ _, λ d. dear_none _ _, refl, c.requires, none_freed _)
 
-pub end-first-requires : goal.end-first-requires
-end-first-requires g c = c.loop-port.invariant.3
+pub end_first-requires : goal.end_first-requires
+end_first-requires g c = c.loop-port.invariant.3
 
-pub overflow-add-overdrawn : goal.overflow-add-overdrawn
-overflow-add-overdrawn g c = omega (arith, (c.loop-port.invariant.0 0).few, queue_few c.args.buffers.now 0 c.args.port.number 2)
+pub overflow_add-overdrawn : goal.overflow_add-overdrawn
+overflow_add-overdrawn g c = omega (arith, (c.loop-port.invariant.0 0).few, queue_few c.args.buffers.now 0 c.args.port.number 2)
 
 pub loop-port-smaller : goal.loop-port-smaller
 loop-port-smaller g c =
     let p : ℕ = c.args.port.number in
     let ports : ℕ → Egress = egress 0 c.loop-port.buffers in
-    let gone : egress 0 c.end-first.new.buffers ≡ changed ports p (first_gone 2) =
-    c.end-first.ensures.state 0 ∙ (λ i. changed ports p (first_gone (c.paid-queue.ensures i))) in
+    let gone : egress 0 c.end_first.new.buffers ≡ changed ports p (first_gone 2) =
+    c.end_first.ensures.state 0 ∙ (λ i. changed ports p (first_gone (c.paid_queue.ensures i))) in
     cut_less ports _ p 2 gone (dear_there _ ((ports p).queue 2) (sym (c.loop-port-test.ensures 0)))
 
 pub loop-port-preserved : goal.loop-port-preserved
@@ -32,11 +32,11 @@ loop-port-preserved g c =
     let mid : ℕ → ℕ → Egress = λ d. egress d c.loop-port.buffers in
     let dear : (d : ℕ) → is_dear c.tokens-tokens.result ((mid d p).queue 2) ≡ true = λ d. sym (c.loop-port-test.ensures d) in
     let inv = c.loop-port.invariant in (
-      λ d. cut_on (inv.0 d) (c.end-first.ensures.state d ∙ (λ i. changed (mid d) p (first_gone (c.paid-queue.ensures i)))) (dear_there _ ((mid d p).queue 2) (dear d)),
+      λ d. cut_on (inv.0 d) (c.end_first.ensures.state d ∙ (λ i. changed (mid d) p (first_gone (c.paid_queue.ensures i)))) (dear_there _ ((mid d p).queue 2) (dear d)),
       λ d. dear_on (inv.1 d) (sym (ap (is_dear c.tokens-tokens.result) (left_in (egress d c.args.buffers.now) (mid d) p 2 c.loop-port.overdrawn (inv.0 d).ports)) ∙ dear d),
-      c.end-first.ensures.number ∙ inv.2,
-      c.end-first.ensures.sound,
-      freed_on inv.4 c.end-first.ensures.contents,
+      c.end_first.ensures.number ∙ inv.2,
+      c.end_first.ensures.sound,
+      freed_on inv.4 c.end_first.ensures.contents,
     )
 
 pub returns : goal.returns

@@ -18,43 +18,43 @@ returns-then-not-gates g c =
     let o3 : Bool = c.args.gates.best_effort in
     let before : ℕ → ℕ → Egress = λ d. egress d c.args.buffers.now in
     let shut : c.args.gates.paid ≡ false = not-true _ c.if-not-gates.true in
-    let best = c.best-effort-part.ensures in
+    let best = c.best_effort_part.ensures in
     record {
       answer = λ d. best.answer d ∙ ap (λ o. shows (paid_part_lem o o3 (before d p))) (sym shut);
       state = λ d. best.state d ∙ (λ i. put (before d) p (paid_part_lem (sym shut i) o3 (before d p)).left);
       number = best.number;
       sound = agree_moved _ _ _ (sym best.cells) c.requires.sound;
-      contents = freed_same (none_freed _) (same_contents c.args.buffers.now c.best-effort-part.new.buffers best.frames best.cells);
+      contents = freed_same (none_freed _) (same_contents c.args.buffers.now c.best_effort_part.new.buffers best.frames best.cells);
     }
 
-pub take-paid-requires : goal.take-paid-requires
-take-paid-requires g c =
+pub take_paid-requires : goal.take_paid-requires
+take_paid-requires g c =
     let p : ℕ = c.args.port.number in
     let before : ℕ → ℕ → Egress = λ d. egress d c.args.buffers.now in
-    let now : (d : ℕ) → egress d c.end-overdrawn-overdrawn.new.buffers p ≡ unburdened (before d p) = λ d.
-    ap (λ f. f p) (c.end-overdrawn-overdrawn.ensures.state d) ∙ put_here (before d) p (unburdened (before d p)) in
+    let now : (d : ℕ) → egress d c.end_overdrawn-overdrawn.new.buffers p ≡ unburdened (before d p) = λ d.
+    ap (λ f. f p) (c.end_overdrawn-overdrawn.ensures.state d) ∙ put_here (before d) p (unburdened (before d p)) in
     record {
       out = λ d. ap (λ e. e.out) (now d) ∙ c.requires.out d;
       tokens = λ d. ap (λ e. is_dear e.tokens (e.queue 2)) (now d) ∙ cheap_now (before d p).tokens ((before d p).queue 2);
     }
 
-pub best-effort-part-requires-in-default : goal.best-effort-part-requires-in-default
-best-effort-part-requires-in-default g c κs d =
+pub best_effort_part-requires-in_default : goal.best_effort_part-requires-in_default
+best_effort_part-requires-in_default g c κs d =
     let p : ℕ = c.args.port.number in
     let before : ℕ → Egress = egress d c.args.buffers.now in
-    let paid = c.in-default.ensures in
-    ap (λ f. (f p).out) (none_paid before p (c.end-overdrawn-overdrawn.ensures.state d) (paid.state d) (paid.answer d)) ∙ ap (λ e. e.out) (put_here before p (with_queue (before p) 2 [])) ∙ c.requires.out d
+    let paid = c.in_default.ensures in
+    ap (λ f. (f p).out) (none_paid before p (c.end_overdrawn-overdrawn.ensures.state d) (paid.state d) (paid.answer d)) ∙ ap (λ e. e.out) (put_here before p (with_queue (before p) 2 [])) ∙ c.requires.out d
 
-pub returns-in-default : goal.returns-in-default
-returns-in-default g c =
+pub returns-in_default : goal.returns-in_default
+returns-in_default g c =
     let p : ℕ = c.args.port.number in
-    let n : ℕ = c.end-overdrawn-overdrawn.result in
+    let n : ℕ = c.end_overdrawn-overdrawn.result in
     let o3 : Bool = c.args.gates.best_effort in
     let before : ℕ → ℕ → Egress = λ d. egress d c.args.buffers.now in
     let opens : c.args.gates.paid ≡ true = not-false _ c.if-not-gates.false in
-    let ended = c.end-overdrawn-overdrawn.ensures in
-    let paid = c.in-default.ensures in
-    let best = c.best-effort-part-in-default.ensures in
+    let ended = c.end_overdrawn-overdrawn.ensures in
+    let paid = c.in_default.ensures in
+    let best = c.best_effort_part-in_default.ensures in
     let mid = λ (d : ℕ). none_paid (before d) p (ended.state d) (paid.state d) (paid.answer d) in
     let none = λ (d : ℕ). all_dear (before d) p (ended.state d) (paid.state d) (paid.answer d) in
     let is : (d : ℕ) → best_effort_part_lem o3 (with_queue (before d p) 2 []) n ≡ paid_part_lem c.args.gates.paid o3 (before d p) = λ d.
@@ -64,19 +64,19 @@ returns-in-default g c =
       state = λ d. best.state d ∙ (λ i. changed (mid d i) p (λ e. (best_effort_part_lem o3 e n).left)) ∙ changed_twice (before d) p (λ e. with_queue e 2 []) (λ e. (best_effort_part_lem o3 e n).left) ∙ (λ i. put (before d) p (is d i).left);
       number = best.number ∙ paid.number ∙ ended.number;
       sound = agree_moved _ _ _ (sym (best.cells ∙ paid.cells)) ended.sound;
-      contents = freed_same ended.contents (same_contents c.end-overdrawn-overdrawn.new.buffers c.best-effort-part-in-default.new.buffers (best.frames ∙ paid.frames) (best.cells ∙ paid.cells));
+      contents = freed_same ended.contents (same_contents c.end_overdrawn-overdrawn.new.buffers c.best_effort_part-in_default.new.buffers (best.frames ∙ paid.frames) (best.cells ∙ paid.cells));
     }
 
 pub returns : goal.returns
 returns g c =
     let p : ℕ = c.args.port.number in
-    let n : ℕ = c.end-overdrawn-overdrawn.result in
+    let n : ℕ = c.end_overdrawn-overdrawn.result in
     let o3 : Bool = c.args.gates.best_effort in
     let before : ℕ → ℕ → Egress = λ d. egress d c.args.buffers.now in
     let left : ℕ → List Copy = λ d. affordable (before d p).tokens ((before d p).queue 2) in
     let opens : c.args.gates.paid ≡ true = not-false _ c.if-not-gates.false in
-    let ended = c.end-overdrawn-overdrawn.ensures in
-    let paid = c.take-paid.ensures in
+    let ended = c.end_overdrawn-overdrawn.ensures in
+    let paid = c.take_paid.ensures in
     let first = λ (d : ℕ). paid_first o3 (before d p) n (left d) (sent c.in-Some.sent) (sym (ap (option_map sent) c.in-Some.is) ∙ paid.answer d ∙ ap (λ cs. option_map copy_sent (first_of cs)) (left_there (before d) p (ended.state d) (paid.state d))) in
     let is : (d : ℕ) → take_paid_lem o3 (before d p) n (left d) ≡ paid_part_lem c.args.gates.paid o3 (before d p) = λ d.
     ap (λ m. take_paid_lem o3 (before d p) m (left d)) (ended.answer d) ∙ ap (λ o. paid_part_lem o o3 (before d p)) (sym opens) in
@@ -85,5 +85,5 @@ returns g c =
       state = λ d. both_paid (before d) p (ended.state d) (paid.state d) ∙ (λ i. put (before d) p (((first d).1 ∙ ap (λ t. t.left) (is d)) i));
       number = paid.number ∙ ended.number;
       sound = agree_moved _ _ _ (sym paid.cells) ended.sound;
-      contents = freed_same ended.contents (same_contents c.end-overdrawn-overdrawn.new.buffers c.take-paid.new.buffers paid.frames paid.cells);
+      contents = freed_same ended.contents (same_contents c.end_overdrawn-overdrawn.new.buffers c.take_paid.new.buffers paid.frames paid.cells);
     }

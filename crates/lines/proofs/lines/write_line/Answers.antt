@@ -12,39 +12,39 @@ worded o = 32 ∷ word o
 abbrev rest : Outcome → List ℕ
 rest o = spaced (values o) ++ 10 ∷ []
 
-pub returns-in-err-write-number : goal.returns-in-err-write-number
-returns-in-err-write-number c =
+pub returns-in_err-write_number : goal.returns-in_err-write_number
+returns-in_err-write_number c =
     let text = c.args.text.now in
     let o : Outcome = outcome c.args.told.now in
-    failed c.from-residual.result text (line c.args.number o) c.write-number.new.text c.from-residual.ensures.0 (short_first text text (decimal c.args.number) (worded o ++ rest o) c.in-err-write-number.ensures)
+    failed c.from_residual.result text (line c.args.number o) c.write_number.new.text c.from_residual.ensures.0 (short_first text text (decimal c.args.number) (worded o ++ rest o) c.in_err-write_number.ensures)
 
-pub returns-in-err-write-bytes : goal.returns-in-err-write-bytes
-returns-in-err-write-bytes c =
+pub returns-in_err-write_bytes : goal.returns-in_err-write_bytes
+returns-in_err-write_bytes c =
     let text = c.args.text.now in
-    let one = c.write-number.new.text in
+    let one = c.write_number.new.text in
     let o : Outcome = outcome c.args.told.now in
-    let none : Short one (worded o) = subst (Short one) c.word.ensures c.in-err-write-bytes.ensures in
-    failed c.from-residual-in-err-write-bytes.result text (line c.args.number o) c.write-bytes.new.text c.from-residual-in-err-write-bytes.ensures.0 (short_on text one (decimal c.args.number) (worded o ++ rest o) c.in-ok-write-number.ensures (short_first one one (worded o) (rest o) none))
+    let none : Short one (worded o) = subst (Short one) c.word.ensures c.in_err-write_bytes.ensures in
+    failed c.from_residual-in_err-write_bytes.result text (line c.args.number o) c.write_bytes.new.text c.from_residual-in_err-write_bytes.ensures.0 (short_on text one (decimal c.args.number) (worded o ++ rest o) c.in_ok-write_number.ensures (short_first one one (worded o) (rest o) none))
 
-pub returns-in-err-write-values : goal.returns-in-err-write-values
-returns-in-err-write-values c =
+pub returns-in_err-write_values : goal.returns-in_err-write_values
+returns-in_err-write_values c =
     let text = c.args.text.now in
-    let one = c.write-number.new.text in
-    let two = c.write-bytes.new.text in
+    let one = c.write_number.new.text in
+    let two = c.write_bytes.new.text in
     let o : Outcome = outcome c.args.told.now in
-    let named : There one (worded o) two = subst (λ bs. There one bs two) c.word.ensures c.in-ok-write-bytes.ensures in
-    let none : Short two (spaced (values o)) = subst (λ vs. Short two (spaced vs)) (ap (λ k. take k c.values-count.result.0) (omega arith) ∙ c.values-count.ensures.values) c.in-err-write-values.ensures in
-    failed c.from-residual-in-err-write-values.result text (line c.args.number o) c.write-values.new.text c.from-residual-in-err-write-values.ensures.0 (short_on text one (decimal c.args.number) (worded o ++ rest o) c.in-ok-write-number.ensures (short_on one two (worded o) (rest o) named (short_first two two (spaced (values o)) (10 ∷ []) none)))
+    let named : There one (worded o) two = subst (λ bs. There one bs two) c.word.ensures c.in_ok-write_bytes.ensures in
+    let none : Short two (spaced (values o)) = subst (λ vs. Short two (spaced vs)) (ap (λ k. take k c.values-count.result.0) (omega arith) ∙ c.values-count.ensures.values) c.in_err-write_values.ensures in
+    failed c.from_residual-in_err-write_values.result text (line c.args.number o) c.write_values.new.text c.from_residual-in_err-write_values.ensures.0 (short_on text one (decimal c.args.number) (worded o ++ rest o) c.in_ok-write_number.ensures (short_on one two (worded o) (rest o) named (short_first two two (spaced (values o)) (10 ∷ []) none)))
 
 pub returns : goal.returns
 returns c =
     let text = c.args.text.now in
-    let one = c.write-number.new.text in
-    let two = c.write-bytes.new.text in
-    let three = c.write-values.new.text in
-    let four = c.write-bytes-2.new.text in
-    let r = c.write-bytes-2.result in
+    let one = c.write_number.new.text in
+    let two = c.write_bytes.new.text in
+    let three = c.write_values.new.text in
+    let four = c.write_bytes-2.new.text in
+    let r = c.write_bytes-2.result in
     let o : Outcome = outcome c.args.told.now in
-    let named : There one (worded o) two = subst (λ bs. There one bs two) c.word.ensures c.in-ok-write-bytes.ensures in
-    let listed : There two (spaced (values o)) three = subst (λ vs. There two (spaced vs) three) (ap (λ k. take k c.values-count.result.0) (omega arith) ∙ c.values-count.ensures.values) c.in-ok-write-values.ensures in
-    wrote_on text one (decimal c.args.number) (worded o ++ rest o) r four c.in-ok-write-number.ensures (wrote_on one two (worded o) (rest o) r four named (wrote_on two three (spaced (values o)) (10 ∷ []) r four listed c.write-bytes-2.ensures))
+    let named : There one (worded o) two = subst (λ bs. There one bs two) c.word.ensures c.in_ok-write_bytes.ensures in
+    let listed : There two (spaced (values o)) three = subst (λ vs. There two (spaced vs) three) (ap (λ k. take k c.values-count.result.0) (omega arith) ∙ c.values-count.ensures.values) c.in_ok-write_values.ensures in
+    wrote_on text one (decimal c.args.number) (worded o ++ rest o) r four c.in_ok-write_number.ensures (wrote_on one two (worded o) (rest o) r four named (wrote_on two three (spaced (values o)) (10 ∷ []) r four listed c.write_bytes-2.ensures))

@@ -5,8 +5,8 @@ use Rattle.lines.proofs.texts.spell.Goals as goal
 pub loop-rest-init : goal.loop-rest-init
 loop-rest-init c = spelling_none c.args.number _ (omega arith) refl refl
 
-pub overflow-sub-first-in-loop-rest : goal.overflow-sub-first-in-loop-rest
-overflow-sub-first-in-loop-rest c = omega (arith, two_rooms c.loop-rest.invariant c.loop-rest-test.true)
+pub overflow_sub-first-in-loop-rest : goal.overflow_sub-first-in-loop-rest
+overflow_sub-first-in-loop-rest c = omega (arith, two_rooms c.loop-rest.invariant c.loop-rest-test.true)
 
 pub loop-rest-preserved : goal.loop-rest-preserved
 loop-rest-preserved c = spelling_on c.loop-rest.invariant c.loop-rest-test.true

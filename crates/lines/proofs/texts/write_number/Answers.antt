@@ -8,4 +8,4 @@ returns c =
     let spelled = c.spell-first.ensures in
     let first : ℕ = c.spell-first.result.1 in
     let all = take_all (21 - first) (drop first c.spell-first.result.0) (omega (arith, spelled.wide, length-drop first c.spell-first.result.0)) in
-    subst (λ bytes. Wrote c.write-bytes.result c.args.text.now bytes c.write-bytes.new.text) (all ∙ spelled.digits) c.write-bytes.ensures
+    subst (λ bytes. Wrote c.write_bytes.result c.args.text.now bytes c.write_bytes.new.text) (all ∙ spelled.digits) c.write_bytes.ensures

@@ -11,4 +11,4 @@ returns c =
     let all = take_all (21 - (first - 1)) (drop (first - 1) places) (omega (arith, spelled.wide, spelled.first, length-drop (first - 1) places, length-set c.spell-first.result.0 (first - 1) 32)) in
     let bytes : drop (first - 1) places ≡ 32 ∷ decimal c.args.number =
     drop-set c.spell-first.result.0 (first - 1) 32 (omega (arith, spelled.wide, spelled.first)) ∙ ap (λ k. 32 ∷ drop k c.spell-first.result.0) (omega (arith, spelled.first)) ∙ ap (λ l. 32 ∷ l) spelled.digits in
-    subst (λ bs. Wrote c.write-bytes.result c.args.text.now bs c.write-bytes.new.text) (all ∙ bytes) c.write-bytes.ensures
+    subst (λ bs. Wrote c.write_bytes.result c.args.text.now bs c.write_bytes.new.text) (all ∙ bytes) c.write_bytes.ensures

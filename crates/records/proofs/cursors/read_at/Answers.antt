@@ -7,7 +7,7 @@ use Rattle.records.proofs.cursors.read_at.Goals.{After-read, then-length-lt-HEAD
 
 pub returns-then-length-lt-HEAD : goal.returns-then-length-lt-HEAD
 returns-then-length-lt-HEAD c =
-    let l = c.from-be-bytes-length.ensures in
+    let l = c.from_be_bytes-length.ensures in
     let e : broken c.args.input.now c.args.place ≡ true =
     elim c.then-length-lt-HEAD.branch [
       | then-length-lt-HEAD-via-then-length-lt-HEAD w ↦ small c.args.input.now c.args.place _ l w.if-length-lt-HEAD.true
@@ -27,19 +27,19 @@ returns-then-version-ne-VERSION c =
 -- what the body says of the record is all that is left to say
 judged : (c : After-read) → option_map asks c.read.result ≡ unless (broken c.args.input.now c.args.place) (asked_at c.args.input.now c.args.place)
 judged c =
-    let l = c.from-be-bytes-length.ensures in
+    let l = c.from_be_bytes-length.ensures in
     let four : 4 ≤ length (take (length c.args.input.now - c.args.place) (drop c.args.place c.args.input.now)) = search rules in
     c.read.ensures ∙ by_body c.args.input.now c.args.place _ l four c.if-length-lt-HEAD.false c.if-length-rest.false c.if-version-ne-VERSION.false c.if-kind-place.false
 
 pub returns : goal.returns
 returns c =
-    let is = sym (ap (option_map asks) c.in-ok-record.was) ∙ judged (goal.at.returns c).After-read in
+    let is = sym (ap (option_map asks) c.in_ok-record.was) ∙ judged (goal.at.returns c).After-read in
     let e = sound_at_some _ (asked_at c.args.input.now c.args.place) (broken c.args.input.now c.args.place) is in
-    let l = c.from-be-bytes-length.ensures in
+    let l = c.from_be_bytes-length.ensures in
     record { asked = is; behind = rw e (ap (λ n. Some (c.args.place + 2 + n)) (counts c.args.input.now c.args.place _ l)) }
 
-pub returns-in-err-record : goal.returns-in-err-record
-returns-in-err-record c =
-    let is = sym (ap (option_map asks) c.in-err-record.was) ∙ judged (goal.at.returns-in-err-record c).After-read in
+pub returns-in_err-record : goal.returns-in_err-record
+returns-in_err-record c =
+    let is = sym (ap (option_map asks) c.in_err-record.was) ∙ judged (goal.at.returns-in_err-record c).After-read in
     let e = fault_at_none (asked_at c.args.input.now c.args.place) (broken c.args.input.now c.args.place) is in
-    rw c.from-residual.ensures (record { asked = is; behind = rw e })
+    rw c.from_residual.ensures (record { asked = is; behind = rw e })

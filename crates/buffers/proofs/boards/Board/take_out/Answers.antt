@@ -6,6 +6,6 @@ use Rattle.buffers.proofs.boards.Board.take_out.Goals as goal
 pub returns : goal.returns
 returns c =
     record {
-      answer = c.take-out.ensures.answer ∙ ap (λ l. l.out) (line_read c.args.self.now.ports c.index-self-number.result _ _ c.number.ensures (omega arith));
-      state = line_changed c.args.self.now.ports c.index-self-number.result _ _ c.number.ensures (omega arith) (λ l. with_out l None) c.take-out.new.self c.take-out.ensures.state;
+      answer = c.take_out.ensures.answer ∙ ap (λ l. l.out) (line_read c.args.self.now.ports c.index-self-number.result _ _ c.number.ensures (omega arith));
+      state = line_changed c.args.self.now.ports c.index-self-number.result _ _ c.number.ensures (omega arith) (λ l. with_out l None) c.take_out.new.self c.take_out.ensures.state;
     }

@@ -10,24 +10,24 @@ use Rattle.buffers.specs.Lines.{shifted}
 use Rattle.buffers.specs.Notes.{notes}
 use Rattle.buffers.proofs.buffers.Buffers.end_first.Goals as goal
 
-pub invariant-of-self : goal.invariant-of-self
-invariant-of-self c =
+pub invariant_of-self : goal.invariant_of-self
+invariant_of-self c =
     let b = c.args.self.now in
     let p = port_number c.args.port in
     let k = queue_number c.args.queue in
     let l = lines b.board p in
     let prices = shifted_prices l (price_of (notes b.frames)) (b.priced p c.args.port.within) k c.args.queue.within in
-    let s = sound_kept b p c.args.port.within (shifted l k) c.pop.new.self c.pop.ensures.state prices (none_gone l k c.args.queue.within (sym c.in-default.is ∙ c.pop.ensures.answer)) in
+    let s = sound_kept b p c.args.port.within (shifted l k) c.pop.new.self c.pop.ensures.state prices (none_gone l k c.args.queue.within (sym c.in_default.is ∙ c.pop.ensures.answer)) in
     (b.wide, (s.counted, (s.known, (s.once, (s.priced, (s.short, (s.costed, (s.long, (s.apart, (s.young, (s.last, tt)))))))))))
 
-pub returns-in-default : goal.returns-in-default
-returns-in-default c =
+pub returns-in_default : goal.returns-in_default
+returns-in_default c =
     let b = c.args.self.now in
     let p = port_number c.args.port in
     let k = queue_number c.args.queue in
     let l = lines b.board p in
     record {
-      answer = λ d. ap is_some (sym c.in-default.is ∙ c.pop.ensures.answer) ∙ first_seen b p c.args.port.within k d;
+      answer = λ d. ap is_some (sym c.in_default.is ∙ c.pop.ensures.answer) ∙ first_seen b p c.args.port.within k d;
       state = view_changed b p c.args.port.within (shifted l k) c.pop.new.self c.pop.ensures.state (holdings.first_gone k) (shown_shifted b.memory (notes b.frames) l k);
       cells = refl;
       held = tt;
@@ -44,8 +44,8 @@ uncount-requires c =
     let prices = shifted_prices l (price_of (notes b.frames)) (b.priced p c.args.port.within) k c.args.queue.within in
     leaves_cell b p c.args.port.within (shifted l k) c.pop.new.self c.pop.ensures.state prices c.in-Some.first (first_gone l k c.args.queue.within c.in-Some.first (sym c.in-Some.is ∙ c.pop.ensures.answer))
 
-pub invariant-of-self-2 : goal.invariant-of-self-2
-invariant-of-self-2 c =
+pub invariant_of-self-2 : goal.invariant_of-self-2
+invariant_of-self-2 c =
     let b = c.args.self.now in
     let p = port_number c.args.port in
     let k = queue_number c.args.queue in

@@ -21,8 +21,8 @@ pub push-requires : goal.push-requires
 push-requires c =
     room (sound_of c.args.self.now) (port_number c.args.port) (queue_number c.args.queue) c.args.cell.0 c.args.port.within c.args.queue.within c.requires.cell c.requires.copies
 
-pub invariant-of-self : goal.invariant-of-self
-invariant-of-self c =
+pub invariant_of-self : goal.invariant_of-self
+invariant_of-self c =
     let b = c.args.self.now in
     let p = port_number c.args.port in
     let k = queue_number c.args.queue in

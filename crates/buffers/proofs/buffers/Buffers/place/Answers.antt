@@ -9,15 +9,15 @@ use Rattle.buffers.specs.Entries.{egress_of, frame_in}
 use Rattle.buffers.specs.Notes.{Note, notes}
 use Rattle.buffers.proofs.buffers.Buffers.place.Goals as goal
 
-pub invariant-of-self : goal.invariant-of-self
-invariant-of-self c =
+pub invariant_of-self : goal.invariant_of-self
+invariant_of-self c =
     let b = c.args.self.now in
     let m = c.write.new.self in
     let f = c.args.frame.now in
     let cell = c.args.cell.0 in
-    let note : Note = record { number = b.next; length = length f; class = class_number c.args.class; cost = c.cost-of-cost.result } in
+    let note : Note = record { number = b.next; length = length f; class = class_number c.args.class; cost = c.cost_of-cost.result } in
     let is = frame_placed b m cell note c.requires.unused c.write.ensures.others f refl c.write.ensures.own_val in
-    let costs = c.cost-of-cost.ensures ∙ ap cost (sym is) in
+    let costs = c.cost_of-cost.ensures ∙ ap cost (sym is) in
     let s = subst
     (λ ns. Sound (lines b.board) m ns (λ q. get_or b.counts q 0) (b.next + 1))
     (sym c.put.ensures)
@@ -30,7 +30,7 @@ returns c =
     let m = c.write.new.self in
     let f = c.args.frame.now in
     let cell = c.args.cell.0 in
-    let note : Note = record { number = b.next; length = length f; class = class_number c.args.class; cost = c.cost-of-cost.result } in
+    let note : Note = record { number = b.next; length = length f; class = class_number c.args.class; cost = c.cost_of-cost.result } in
     record {
       answer = refl;
       state = λ d. (λ i. egress_of d m (c.put.ensures i) (lines b.board)) ∙ view_kept b m cell note c.requires.unused c.write.ensures.others d;

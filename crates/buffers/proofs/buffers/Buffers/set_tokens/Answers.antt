@@ -6,11 +6,11 @@ use Rattle.buffers.specs.Boards.{lines}
 use Rattle.buffers.specs.Lines.{with_tokens}
 use Rattle.buffers.proofs.buffers.Buffers.set_tokens.Goals as goal
 
-pub invariant-of-self : goal.invariant-of-self
-invariant-of-self c =
+pub invariant_of-self : goal.invariant_of-self
+invariant_of-self c =
     let b = c.args.self.now in
     let p = port_number c.args.port in
-    let s = sound_kept b p c.args.port.within (with_tokens (lines b.board p) c.args.tokens) c.set-tokens.new.self c.set-tokens.ensures (b.priced p c.args.port.within) (λ f. refl) in
+    let s = sound_kept b p c.args.port.within (with_tokens (lines b.board p) c.args.tokens) c.set_tokens.new.self c.set_tokens.ensures (b.priced p c.args.port.within) (λ f. refl) in
     (b.wide, (s.counted, (s.known, (s.once, (s.priced, (s.short, (s.costed, (s.long, (s.apart, (s.young, (s.last, tt)))))))))))
 
 pub returns : goal.returns
@@ -18,7 +18,7 @@ returns c =
     let b = c.args.self.now in
     let p = port_number c.args.port in
     record {
-      state = view_changed b p c.args.port.within (with_tokens (lines b.board p) c.args.tokens) c.set-tokens.new.self c.set-tokens.ensures (λ e. rules.with_tokens e c.args.tokens) refl;
+      state = view_changed b p c.args.port.within (with_tokens (lines b.board p) c.args.tokens) c.set_tokens.new.self c.set_tokens.ensures (λ e. rules.with_tokens e c.args.tokens) refl;
       cells = refl;
       number = refl;
       frames = refl;

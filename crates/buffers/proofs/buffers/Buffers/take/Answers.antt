@@ -16,8 +16,8 @@ take-requires c =
     let b = c.args.self.now in
     mapped_none (copy_of b.memory (notes b.frames)) _ (ap (λ e. e.out) (sym (at_port b.memory (notes b.frames) 0 (lines b.board) (port_number c.args.port) c.args.port.within)) ∙ c.requires 0)
 
-pub invariant-of-self : goal.invariant-of-self
-invariant-of-self c =
+pub invariant_of-self : goal.invariant_of-self
+invariant_of-self c =
     let b = c.args.self.now in
     let p = port_number c.args.port in
     let k = queue_number c.args.queue in

@@ -7,9 +7,9 @@ returns c =
     let xs = c.args.self.now.bytes in
     let f = c.args.frame.now in
     let cell = c.args.cell.0 in
-    let ys = c.copy-from-slice.new.self in
+    let ys = c.copy_from_slice.new.self in
     let inside : cell * 1536 ≤ length xs = search rules in
-    let same : ys ≡ f = c.copy-from-slice.ensures.after in
+    let same : ys ≡ f = c.copy_from_slice.ensures.after in
     let k = cell * 1536 + length f - cell * 1536 in
     let long : length ys ≡ k = omega (arith, ap length same) in
     record {

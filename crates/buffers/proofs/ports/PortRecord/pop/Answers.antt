@@ -9,6 +9,6 @@ returns-in-2 c =
     let l = line c.args.self.now in
     let is : 2 ≡ queue_number c.args.queue = omega arith in
     record {
-      answer = c.pop-priced.ensures.answer ∙ ap (λ k. first_of (l.queue k)) is;
-      state = c.pop-priced.ensures.state ∙ ap (shifted l) is;
+      answer = c.pop_priced.ensures.answer ∙ ap (λ k. first_of (l.queue k)) is;
+      state = c.pop_priced.ensures.state ∙ ap (shifted l) is;
     }

@@ -25,8 +25,8 @@ push-requires-in-2 c =
     let is : queue_number c.args.queue ≡ 2 = omega arith in
     (lit< tt, omega (arith, c.requires, ap (λ k. length ((line r).queue k)) is, length-map (items r.queue2 r.entries2) (λ e. e.entry), length_items r.queue2 r.entries2 r.wide2))
 
-pub push-requires-in-default : goal.push-requires-in-default
-push-requires-in-default c =
+pub push-requires-in_default : goal.push-requires-in_default
+push-requires-in_default c =
     let r = c.args.self.now in
     let is : queue_number c.args.queue ≡ 3 = omega arith in
     (lit< tt, omega (arith, c.requires, ap (λ k. length ((line r).queue k)) is, length_items r.queue3 r.entries3 r.wide3))

@@ -5,8 +5,8 @@ use Rattle.cells.specs.Digits.{digit_fits, digits_set}
 use Rattle.cells.specs.Marks.{back_made, held_parts}
 use Rattle.cells.proofs.masks.MaskStore.give_back.Goals as goal
 
-pub overflow-add-self : goal.overflow-add-self
-overflow-add-self c =
+pub overflow_add-self : goal.overflow_add-self
+overflow_add-self c =
     let n = c.args.self.now.bits in
     let k = c.args.cell.0 in
     let held = held_parts (digits 32 n) k (sym c.if-not-holds.ensures) in

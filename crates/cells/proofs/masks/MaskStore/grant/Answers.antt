@@ -10,8 +10,8 @@ pub returns-then-self-eq0 : goal.returns-then-self-eq0
 returns-then-self-eq0 c =
     record { answer = (ap (λ n. free_count (digits 32 n)) c.if-self-eq0.true ∙ digits_none 32, refl, refl, refl); order = tt }
 
-pub overflow-sub-self : goal.overflow-sub-self
-overflow-sub-self c =
+pub overflow_sub-self : goal.overflow_sub-self
+overflow_sub-self c =
     let top = leading_is_top c.args.self.now.bits (omega arith) (omega arith) in
     omega (arith, top.low, one_shl _ 32 top.within)
 

@@ -18,13 +18,13 @@ one_more xs n c wide few =
     ∙ map_push cell_number (take n xs) c
     ∙ sym (cond-true (ltb (length (map cell_number (take n xs))) 1024) _ _ (lt-ltb _ 1024 low))
 
-pub returns-then-at-lt-MOST-RECORDED : goal.returns-then-at-lt-MOST-RECORDED
-returns-then-at-lt-MOST-RECORDED g c =
+pub returns-then-at-lt-MOST_RECORDED : goal.returns-then-at-lt-MOST_RECORDED
+returns-then-at-lt-MOST_RECORDED g c =
     let r = c.args.self.now in
-    record { below = refl; recorded = one_more r.cells r.count c.args.cell r.wide c.if-at-lt-MOST-RECORDED.true }
+    record { below = refl; recorded = one_more r.cells r.count c.args.cell r.wide c.if-at-lt-MOST_RECORDED.true }
 
-pub returns-else-at-lt-MOST-RECORDED : goal.returns-else-at-lt-MOST-RECORDED
-returns-else-at-lt-MOST-RECORDED g c =
+pub returns-else-at-lt-MOST_RECORDED : goal.returns-else-at-lt-MOST_RECORDED
+returns-else-at-lt-MOST_RECORDED g c =
     let r = c.args.self.now in
-    let full : 1024 ≤ length (map cell_number (take r.count r.cells)) = omega (arith, long r.cells r.count r.wide r.few, c.if-at-lt-MOST-RECORDED.false) in
+    let full : 1024 ≤ length (map cell_number (take r.count r.cells)) = omega (arith, long r.cells r.count r.wide r.few, c.if-at-lt-MOST_RECORDED.false) in
     record { below = refl; recorded = sym (cond-false (ltb (length (map cell_number (take r.count r.cells))) 1024) _ _ (le-ltb _ 1024 full)) }

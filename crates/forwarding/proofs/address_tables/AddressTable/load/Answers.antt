@@ -4,11 +4,11 @@ use Rattle.forwarding.specs.Searches.{held_fit}
 use Rattle.forwarding.proofs.address_tables.AddressTable.load.Goals as goal
 
 pub held-requires : goal.held-requires
-held-requires c = held_fit c.args.rows.now c.in-default.ensures
+held-requires c = held_fit c.args.rows.now c.in_default.ensures
 
-pub invariant-of-result : goal.invariant-of-result
-invariant-of-result c =
-    let none = c.in-default.ensures in
+pub invariant_of-result : goal.invariant_of-result
+invariant_of-result c =
+    let none = c.in_default.ensures in
     let room = held_fit c.args.rows.now none in
     let right = ap (λ rs. is_some (first_wrong_lem 0 rs)) c.held.ensures ∙ sym (ap is_some none) in
     search rules

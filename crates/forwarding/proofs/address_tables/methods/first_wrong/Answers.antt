@@ -4,13 +4,13 @@ use Rattle.forwarding.specs.Rows.{first_wrong_lem}
 use Rattle.forwarding.specs.Searches.{wrong_here, wrong_later}
 use Rattle.forwarding.proofs.address_tables.methods.first_wrong.Goals as goal
 
-pub returns-then-not-fits-at : goal.returns-then-not-fits-at
-returns-then-not-fits-at c =
-    sym (wrong_here c.args.rows.now c.loop-place.place c.loop-place-test.true (sym c.if-not-fits-at.ensures)) ∙ c.loop-place.invariant
+pub returns-then-not-fits_at : goal.returns-then-not-fits_at
+returns-then-not-fits_at c =
+    sym (wrong_here c.args.rows.now c.loop-place.place c.loop-place-test.true (sym c.if-not-fits_at.ensures)) ∙ c.loop-place.invariant
 
 pub loop-place-preserved : goal.loop-place-preserved
 loop-place-preserved c =
-    sym (wrong_later c.args.rows.now c.loop-place.place c.loop-place-test.true (sym c.if-not-fits-at.ensures)) ∙ c.loop-place.invariant
+    sym (wrong_later c.args.rows.now c.loop-place.place c.loop-place-test.true (sym c.if-not-fits_at.ensures)) ∙ c.loop-place.invariant
 
 pub returns : goal.returns
 returns c =

@@ -2,8 +2,8 @@ use Rattle.std.proofs.Common.{ap, ◌∙◌, arith}
 use Rattle.forwarding.specs.FlowsLemmas.{none_at}
 use Rattle.forwarding.proofs.flow_tables.FlowTable.new.Goals as goal
 
-pub invariant-of-result : goal.invariant-of-result
-invariant-of-result c = (λ f. omega (arith, ap (λ sets. sets f) c.filled.ensures, none_at f), tt)
+pub invariant_of-result : goal.invariant_of-result
+invariant_of-result c = (λ f. omega (arith, ap (λ sets. sets f) c.filled.ensures, none_at f), tt)
 
 pub returns : goal.returns
 returns c = c.filled.ensures ∙ (λ i f. none_at f i)

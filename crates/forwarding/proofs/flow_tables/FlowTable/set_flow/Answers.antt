@@ -2,8 +2,8 @@ use Rattle.std.proofs.Common.{arith}
 use Rattle.forwarding.specs.FlowsLemmas.{put_narrow, put_done}
 use Rattle.forwarding.proofs.flow_tables.FlowTable.set_flow.Goals as goal
 
-pub invariant-of-self : goal.invariant-of-self
-invariant-of-self c =
+pub invariant_of-self : goal.invariant_of-self
+invariant_of-self c =
     (put_narrow _ _ c.args.flow c.args.ports c.args.self.now.narrow (omega arith) c.put.ensures, tt)
 
 pub returns : goal.returns

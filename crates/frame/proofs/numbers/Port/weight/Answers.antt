@@ -1,4 +1,4 @@
-use Rattle.std.proofs.Common.{◌≡◌, sym, ◌∙◌, arith}
+use Rattle.std.proofs.Common.{arith}
 use Rattle.std.proofs.lemmas.Nat.{one_shl}
 use Rattle.frame.proofs.Ports.{weight_small}
 use Rattle.frame.proofs.numbers.Port.weight.Goals as goal

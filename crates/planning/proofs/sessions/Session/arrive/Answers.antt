@@ -8,4 +8,4 @@ use Rattle.planning.proofs.sessions.Session.arrive.Goals as goal
 pub returns : goal.returns
 returns g c =
     let call = c.arrive.ensures in
-    performed_one g.F.Forwarding.forwards c.args.self.now _ _ _ (called_arrive c.arrive.result c.args.port c.args.frame.now call.answer call.state call.contents call.kept call.sound call.addressed) call.kinds refl (ap (λ t. by_answer (λ a. laid a.number a.class a.set) t ∷ []) (sym call.answer) ∙ ap (λ o. o ∷ []) (sym c.tell-arrived.ensures))
+    performed_one g.F.Forwarding.forwards c.args.self.now _ _ _ (called_arrive c.arrive.result c.args.port c.args.frame.now call.answer call.state call.contents call.kept call.sound call.addressed) call.kinds refl (ap (λ t. by_answer (λ a. laid a.number a.class a.set) t ∷ []) (sym call.answer) ∙ ap (λ o. o ∷ []) (sym c.tell_arrived.ensures))

@@ -3,4 +3,4 @@ use Rattle.records.proofs.openings.Opening.read.Goals as goal
 
 pub returns : goal.returns
 returns c =
-    c.with-settings.ensures c.args.body.now c.six-bytes-slot.ensures c.six-bytes-number.ensures (take_rest c.args.body.now 12)
+    c.with_settings.ensures c.args.body.now c.six_bytes-slot.ensures c.six_bytes-number.ensures (take_rest c.args.body.now 12)

@@ -6,4 +6,4 @@ pub returns : goal.returns
 returns c b slot number behind =
     let long : 10 ≤ length c.args.settings.now = search rules in
     stands b c.args.settings.now behind long c.if-tap-gt1.false c.if-rows-count.false _ slot number
-    c.from-be-bytes.ensures c.from-be-bytes-2.ensures c.from-be-bytes-3.ensures c.from-be-bytes-4.ensures refl refl
+    c.from_be_bytes.ensures c.from_be_bytes-2.ensures c.from_be_bytes-3.ensures c.from_be_bytes-4.ensures refl refl

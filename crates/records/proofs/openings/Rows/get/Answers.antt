@@ -9,4 +9,4 @@ pub returns : goal.returns
 returns c =
     let bs = c.args.self.now.bytes.now in
     let start = c.args.i * 7 in
-    ap (λ n. Some (n, get_or (take (length bs - start) (drop start bs)) 6 0)) c.from-bytes.ensures ∙ sym (row_in_part bs _ c.args.i c.if-i-self.false)
+    ap (λ n. Some (n, get_or (take (length bs - start) (drop start bs)) 6 0)) c.from_bytes.ensures ∙ sym (row_in_part bs _ c.args.i c.if-i-self.false)

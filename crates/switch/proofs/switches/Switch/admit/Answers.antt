@@ -17,9 +17,9 @@ returns-then-not-admits g c =
     let b : Behind = behind g.P.Plan.fills g.P.Plan.opens g.R.Rule.floors g.F.Forwarding.forwards now in
     let s : State = state now in
     let f : List ℕ = c.args.bytes.now in
-    let h = c.in-ok-heading.heading in
-    let way : Until b s c.args.port f h.input.number h.destination.bits (class_number h.class) c.in-ok-ports.ports.bits =
-    until b s c.args.port f _ _ _ _ c.in-ok-heading.ensures (omega (arith, c.next.ensures, c.if-next-ge-NUMBERS.false)) c.in-ok-ports.ensures in
+    let h = c.in_ok-heading.heading in
+    let way : Until b s c.args.port f h.input.number h.destination.bits (class_number h.class) c.in_ok-ports.ports.bits =
+    until b s c.args.port f _ _ _ _ c.in_ok-heading.ensures (omega (arith, c.next.ensures, c.if-next-ge-NUMBERS.false)) c.in_ok-ports.ensures in
     let cells : c.free.result ≡ free s = c.free.ensures.answer ∙ free_is now.buffers s.depth (g.S.Store.marks now.store) (g.met.S.Store.wide now.store) c.requires in
     let fails : admitted (b.floor (class f)) (free s) ≡ false = sym (λ i. admitted (b.floor (way.class_is i)) (cells i)) ∙ sym c.admits.ensures ∙ c.if-not-admits.true in
     ap (refused 6) way.class_is ∙ sym (way.checks _ ∙ cond-true (not (admitted (b.floor (class f)) (free s))) _ _ (not_from_false _ fails))
@@ -30,9 +30,9 @@ returns g c =
     let b : Behind = behind g.P.Plan.fills g.P.Plan.opens g.R.Rule.floors g.F.Forwarding.forwards now in
     let s : State = state now in
     let f : List ℕ = c.args.bytes.now in
-    let h = c.in-ok-heading.heading in
-    let way : Until b s c.args.port f h.input.number h.destination.bits (class_number h.class) c.in-ok-ports.ports.bits =
-    until b s c.args.port f _ _ _ _ c.in-ok-heading.ensures (omega (arith, c.next.ensures, c.if-next-ge-NUMBERS.false)) c.in-ok-ports.ensures in
+    let h = c.in_ok-heading.heading in
+    let way : Until b s c.args.port f h.input.number h.destination.bits (class_number h.class) c.in_ok-ports.ports.bits =
+    until b s c.args.port f _ _ _ _ c.in_ok-heading.ensures (omega (arith, c.next.ensures, c.if-next-ge-NUMBERS.false)) c.in_ok-ports.ensures in
     let cells : c.free.result ≡ free s = c.free.ensures.answer ∙ free_is now.buffers s.depth (g.S.Store.marks now.store) (g.met.S.Store.wide now.store) c.requires in
     let holds : admitted (b.floor (class f)) (free s) ≡ true = sym (λ i. admitted (b.floor (way.class_is i)) (cells i)) ∙ sym c.admits.ensures ∙ c.if-not-admits.false in
     (λ i. accepted (way.class_is i, way.set_is i)) ∙ sym (way.checks _ ∙ cond-false (not (admitted (b.floor (class f)) (free s))) _ _ (not_from_true _ holds))

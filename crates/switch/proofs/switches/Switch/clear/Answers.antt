@@ -12,27 +12,27 @@ use Rattle.switch.specs.Switches.{state}
 use Rattle.egress.specs.Ports.{unqueued}
 use Rattle.switch.proofs.switches.Switch.clear.Goals as goal
 
-pub overflow-add-result : goal.overflow-add-result
-overflow-add-result g c =
+pub overflow_add-result : goal.overflow_add-result
+overflow_add-result g c =
     let b = c.args.self.now.buffers in
-    let p = c.in-ok-port.port.number in
-    let queued = c.end-queues-queued.ensures.answer 0 in
-    omega (arith, queued, queued_few b 0 p, c.from.ensures, bit_few c.end-out-out.result)
+    let p = c.in_ok-port.port.number in
+    let queued = c.end_queues-queued.ensures.answer 0 in
+    omega (arith, queued, queued_few b 0 p, c.from.ensures, bit_few c.end_out-out.result)
 
 pub returns : goal.returns
 returns g c =
     let s : State = state c.args.self.now in
-    let p : ℕ = c.in-ok-port.port.number in
-    let named = named_is c.args.port p c.in-ok-port.ensures in
+    let p : ℕ = c.in_ok-port.port.number in
+    let named = named_is c.args.port p c.in_ok-port.ensures in
     let e : Egress = s.port p in
-    let queues = c.end-queues-queued.ensures in
-    let out = c.end-out-out.ensures in
+    let queues = c.end_queues-queued.ensures in
+    let out = c.end_out-out.ensures in
     let out-is : c.from.result ≡ length (option_to_list e.out) =
     c.from.ensures ∙ ap bool_byte (out.answer s.depth ∙ ap is_some (still_out s.port p (queues.state s.depth))) ∙ out_counts e.out in
-    let count : c.end-queues-queued.result + c.from.result ≡ length (copies_at (s.port c.args.port)) =
+    let count : c.end_queues-queued.result + c.from.result ≡ length (copies_at (s.port c.args.port)) =
     omega (arith, queues.answer s.depth, out-is, length-append (queued_at e) (option_to_list e.out), ap (λ q. length (copies_at (s.port q))) named.1) in
     let answer : clear_answer s c.args.port ≡ accepted (length (copies_at (s.port c.args.port))) = port_passes c.args.port [] _ named.0 in
-    let after = c.end-out-out.new.buffers in
+    let after = c.end_out-out.new.buffers in
     let ports : egress s.depth after ≡ put s.port c.args.port (record { queue = λ k. []; tokens = (s.port c.args.port).tokens; out = None }) =
     cleared s.port p (queues.state s.depth) (out.state s.depth) ∙ (λ i. changed s.port (named.1 i) (λ x. with_out (unqueued x) None)) in
     record {

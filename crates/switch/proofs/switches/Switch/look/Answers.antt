@@ -11,8 +11,8 @@ look-requires g c κs d =
     let ports = egress d c.args.self.now.buffers in
     let p = c.port.result in
     let n = c.number.result.0 in
-    let found = c.in-ok-sending.sending in
-    let is = one_accepted (not_out (out_at ports p n) p) _ (found.port.number, found.length) n (c.in-ok-sending.ensures d) in
+    let found = c.in_ok-sending.sending in
+    let is = one_accepted (not_out (out_at ports p n) p) _ (found.port.number, found.length) n (c.in_ok-sending.ensures d) in
     let long : found.length ≡ length (out_bytes (ports found.port.number).out) =
     ap (λ x. x.1) is.1 ∙ ap (λ o. length (out_bytes o)) (found_out ports p n is.0) ∙ ap (λ q. length (out_bytes (ports q).out)) (sym (ap (λ x. x.0) is.1)) in
     omega (arith, long, c.if-buffer-sending.false)

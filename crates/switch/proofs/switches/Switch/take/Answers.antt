@@ -18,17 +18,17 @@ returns g c =
     let now = c.args.self.now in
     let b : Behind = behind g.P.Plan.fills g.P.Plan.opens g.R.Rule.floors g.F.Forwarding.forwards now in
     let s : State = state now in
-    let p : ℕ = c.in-ok-place.place.number in
-    let named = named_is c.args.port p c.in-ok-place.ensures in
+    let p : ℕ = c.in_ok-place.place.number in
+    let named = named_is c.args.port p c.in_ok-place.ensures in
     let gates = c.of-gates.ensures in
-    let take = c.take-at-taking.ensures in
+    let take = c.take_at-taking.ensures in
     let taking : Taking = port_taking b s c.args.port in
     -- the gates of the slot, at the port that was named
     let is : take_at c.of-gates.result.sending.number c.of-gates.result.paid c.of-gates.result.best_effort (s.port p) ≡ taking =
     λ i. take_at (gates.sending i) (gates.paid i) (gates.best_effort i) (s.port (named.1 i)) in
     let told = take.answer s.depth ∙ ap shows is in
     let here : Took = record { ticket = option_map (λ x. ticket_for c.args.port (copy_sent x)) taking.taken; overdrawn = taking.overdrawn } in
-    let idle : (s.port c.args.port).out ≡ None = ap (λ q. (s.port q).out) (sym named.1) ∙ mapped_none copy_sent (s.port p).out (sym (c.in-default.ensures s.depth)) in
+    let idle : (s.port c.args.port).out ≡ None = ap (λ q. (s.port q).out) (sym named.1) ∙ mapped_none copy_sent (s.port p).out (sym (c.in_default.ensures s.depth)) in
     let answer : take_answer b s c.args.port ≡ accepted here = port_passes c.args.port (busy (s.port c.args.port).out ∷ []) here named.0 ∙ ap (λ o. judged (busy o ∷ []) here) idle in
     record {
       answer = ap accepted (c.tell.ensures ∙ (λ i. record { ticket = (ap (option_map (ticket_for c.args.port)) (ap (λ t. t.0) told) ∙ mapped_twice copy_sent (ticket_for c.args.port) taking.taken) i; overdrawn = (told i).1 })) ∙ sym answer;

@@ -14,15 +14,15 @@ returns g c =
     let before = c.args.self.now in
     let b : Behind = behind g.P.Plan.fills g.P.Plan.opens g.R.Rule.floors g.F.Forwarding.forwards before in
     let s : State = state before in
-    let slot = next_is s.slot c.in-ok-slot.slot.number c.in-ok-slot.ensures in
+    let slot = next_is s.slot c.in_ok-slot.slot.number c.in_ok-slot.ensures in
     let k : ℕ = c.fill-queue.result.number in
     let fills : k ≡ b.fill (s.slot + 1) = c.fill-queue.ensures ∙ ap b.fill slot.1 in
-    let turn = c.turn-ports-late.ensures in
+    let turn = c.turn_ports-late.ensures in
     let here : Ticked = record { slot = s.slot + 1; late = length (over_ports (late_copies b s)) } in
-    let late : c.turn-ports-late.result ≡ length (over_ports (late_copies b s)) =
+    let late : c.turn_ports-late.result ≡ length (over_ports (late_copies b s)) =
     turn.answer s.depth ∙ ap (λ j. length (over_ports (λ p. (s.port p).queue j))) fills in
     let answer : tick_answer b s ≡ accepted here = cond-false (leb numbers (s.slot + 1)) (refused 3 0) (accepted here) (lt-leb numbers (s.slot + 1) slot.0) in
-    let ports : egress s.depth c.turn-ports-late.new.buffers ≡ tick_port b s =
+    let ports : egress s.depth c.turn_ports-late.new.buffers ≡ tick_port b s =
     turn.state s.depth
     ∙ (λ i. each_port (λ p. turned (fills i) s.rate s.depth) 4 s.port)
     ∙ each_all (λ p. turned (b.fill (s.slot + 1)) s.rate s.depth) s.depth before.buffers (λ p high. turned_empty _ s.rate s.depth) in

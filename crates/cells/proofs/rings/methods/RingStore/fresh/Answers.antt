@@ -4,10 +4,10 @@ use Rattle.cells.specs.Stores.{all_free}
 use Rattle.cells.specs.FreeCells.{first_marked, turn_all}
 use Rattle.cells.proofs.rings.methods.RingStore.fresh.Goals as goal
 
-pub invariant-of-result : goal.invariant-of-result
+pub invariant_of-result : goal.invariant_of-result
 unfolding all_free
-invariant-of-result c = (omega arith, (ap marked (turn_all _ c.in-order.ensures) ∙ first_marked, (refl, tt)))
+invariant_of-result c = (omega arith, (ap marked (turn_all _ c.in_order.ensures) ∙ first_marked, (refl, tt)))
 
 pub returns : goal.returns
 unfolding all_free
-returns c = record { answer = refl; order = turn_all _ c.in-order.ensures }
+returns c = record { answer = refl; order = turn_all _ c.in_order.ensures }

@@ -3,18 +3,18 @@ use Rattle.cells.specs.Marks.{back_made}
 use Rattle.cells.specs.FreeCells.{given, ring_sound}
 use Rattle.cells.proofs.rings.methods.RingStore.give_back.Goals as goal
 
-pub overflow-add-tail : goal.overflow-add-tail
-overflow-add-tail c =
+pub overflow_add-tail : goal.overflow_add-tail
+overflow_add-tail c =
     let g = given (ring_sound c.args.self.now (omega arith)) c.args.cell.0 (sym c.if-not-holds.ensures) in
     omega (arith, g.room, c.args.self.now.within)
 
-pub overflow-add-self : goal.overflow-add-self
-overflow-add-self c =
+pub overflow_add-self : goal.overflow_add-self
+overflow_add-self c =
     let g = given (ring_sound c.args.self.now (omega arith)) c.args.cell.0 (sym c.if-not-holds.ensures) in
     omega (arith, g.room)
 
-pub invariant-of-self : goal.invariant-of-self
-invariant-of-self c =
+pub invariant_of-self : goal.invariant_of-self
+invariant_of-self c =
     let g = given (ring_sound c.args.self.now (omega arith)) c.args.cell.0 (sym c.if-not-holds.ensures) in
     (c.args.self.now.within, (g.exact, (g.counted, tt)))
 

@@ -6,8 +6,8 @@ use Rattle.cells.proofs.rings.methods.RingStore.grant.Goals as goal
 pub bounds-self-cell : goal.bounds-self-cell
 bounds-self-cell c = omega (arith, (taken (ring_sound c.args.self.now (omega arith)) (omega arith)).is_cell)
 
-pub invariant-of-self : goal.invariant-of-self
-invariant-of-self c =
+pub invariant_of-self : goal.invariant_of-self
+invariant_of-self c =
     let t = taken (ring_sound c.args.self.now (omega arith)) (omega arith) in
     (omega arith, (t.exact, (t.counted, tt)))
 
