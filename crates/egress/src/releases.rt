@@ -18,7 +18,7 @@ use frame::numbers::{Port, Queue};
 // The cell was held, so that the store does not refuse it.
 pub fn release<S: Store>(store: &mut S, ended: Ended) -> bool
     ensures answer { result ≡ was_copy ended }
-    ensures cells { (free : ℕ → Bool) → Agree (marks store.old) free → was_held ended free → Agree (marks store.new) (freed ended free) }
+    ensures cells { (free : ℕ → Bool) → Agree (S.marks store.old) free → was_held ended free → Agree (S.marks store.new) (freed ended free) }
 {
     match ended {
         Ended::Nothing => false,
@@ -32,11 +32,11 @@ pub fn release<S: Store>(store: &mut S, ended: Ended) -> bool
 
 // Ends the first copy of a queue, and tells whether there was one.
 pub fn end_first<S: Store>(store: &mut S, buffers: &mut Buffers, port: Port, queue: Queue) -> bool
-    requires { Agree (marks store.old) (free buffers.old) }
+    requires { Agree (S.marks store.old) (free buffers.old) }
     ensures answer { (d : ℕ) → result ≡ is_some (first_of ((egress d buffers.old (port_number port)).queue (queue_number queue))) }
     ensures state { (d : ℕ) → egress d buffers.new ≡ changed (egress d buffers.old) (port_number port) (first_gone (queue_number queue)) }
     ensures number { next_number buffers.new ≡ next_number buffers.old }
-    ensures sound { Agree (marks store.new) (free buffers.new) }
+    ensures sound { Agree (S.marks store.new) (free buffers.new) }
     ensures contents { OnlyFreed (contents buffers.old) (contents buffers.new) }
 {
     let ended = buffers.end_first(port, queue);
@@ -45,11 +45,11 @@ pub fn end_first<S: Store>(store: &mut S, buffers: &mut Buffers, port: Port, que
 
 // Ends the copy that is out, and tells whether there was one.
 pub fn end_out<S: Store>(store: &mut S, buffers: &mut Buffers, port: Port) -> bool
-    requires { Agree (marks store.old) (free buffers.old) }
+    requires { Agree (S.marks store.old) (free buffers.old) }
     ensures answer { (d : ℕ) → result ≡ is_some (egress d buffers.old (port_number port)).out }
     ensures state { (d : ℕ) → egress d buffers.new ≡ changed (egress d buffers.old) (port_number port) (λ e. with_out e None) }
     ensures number { next_number buffers.new ≡ next_number buffers.old }
-    ensures sound { Agree (marks store.new) (free buffers.new) }
+    ensures sound { Agree (S.marks store.new) (free buffers.new) }
     ensures contents { OnlyFreed (contents buffers.old) (contents buffers.new) }
 {
     let ended = buffers.end_out(port);
@@ -58,11 +58,11 @@ pub fn end_out<S: Store>(store: &mut S, buffers: &mut Buffers, port: Port) -> bo
 
 // Ends every copy of a queue, and answers how many there were.
 pub fn end_queue<S: Store>(store: &mut S, buffers: &mut Buffers, port: Port, queue: Queue) -> u32
-    requires { Agree (marks store.old) (free buffers.old) }
+    requires { Agree (S.marks store.old) (free buffers.old) }
     ensures answer { (d : ℕ) → result ≡ length ((egress d buffers.old (port_number port)).queue (queue_number queue)) }
     ensures state { (d : ℕ) → egress d buffers.new ≡ changed (egress d buffers.old) (port_number port) (λ e. with_queue e (queue_number queue) []) }
     ensures number { next_number buffers.new ≡ next_number buffers.old }
-    ensures sound { Agree (marks store.new) (free buffers.new) }
+    ensures sound { Agree (S.marks store.new) (free buffers.new) }
     ensures contents { OnlyFreed (contents buffers.old) (contents buffers.new) }
 {
     let mut count = 0;
@@ -77,11 +77,11 @@ const QUEUES: u8 = 4;
 
 // Ends every copy in the queues of a port, and answers how many there were.
 pub fn end_queues<S: Store>(store: &mut S, buffers: &mut Buffers, port: Port) -> u32
-    requires { Agree (marks store.old) (free buffers.old) }
+    requires { Agree (S.marks store.old) (free buffers.old) }
     ensures answer { (d : ℕ) → result ≡ length (queued_at (egress d buffers.old (port_number port))) }
     ensures state { (d : ℕ) → egress d buffers.new ≡ changed (egress d buffers.old) (port_number port) unqueued }
     ensures number { next_number buffers.new ≡ next_number buffers.old }
-    ensures sound { Agree (marks store.new) (free buffers.new) }
+    ensures sound { Agree (S.marks store.new) (free buffers.new) }
     ensures contents { OnlyFreed (contents buffers.old) (contents buffers.new) }
 {
     let mut ended = 0;

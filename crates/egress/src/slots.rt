@@ -22,11 +22,11 @@ pub fn turn_ports<S: Store>(
     rate: u16,
     depth: u16,
 ) -> u32
-    requires { Agree (marks store.old) (free buffers.old) }
+    requires { Agree (S.marks store.old) (free buffers.old) }
     ensures answer { (d : ℕ) → result ≡ length (over_ports (λ p. (egress d buffers.old p).queue (queue_number queue))) }
     ensures state { (d : ℕ) → egress d buffers.new ≡ each_port (λ p. turned (queue_number queue) rate depth) 4 (egress d buffers.old) }
     ensures number { next_number buffers.new ≡ next_number buffers.old }
-    ensures sound { Agree (marks store.new) (free buffers.new) }
+    ensures sound { Agree (S.marks store.new) (free buffers.new) }
     ensures contents { OnlyFreed (contents buffers.old) (contents buffers.new) }
 {
     let mut late = 0;
@@ -52,11 +52,11 @@ fn turn_port<S: Store>(
     rate: u16,
     depth: u16,
 ) -> u32
-    requires { Agree (marks store.old) (free buffers.old) }
+    requires { Agree (S.marks store.old) (free buffers.old) }
     ensures answer { (d : ℕ) → result ≡ length ((egress d buffers.old (port_number port)).queue (queue_number queue)) }
     ensures state { (d : ℕ) → egress d buffers.new ≡ changed (egress d buffers.old) (port_number port) (turned (queue_number queue) rate depth) }
     ensures number { next_number buffers.new ≡ next_number buffers.old }
-    ensures sound { Agree (marks store.new) (free buffers.new) }
+    ensures sound { Agree (S.marks store.new) (free buffers.new) }
     ensures contents { OnlyFreed (contents buffers.old) (contents buffers.new) }
 {
     let late = end_queue(store, buffers, port, queue);

@@ -35,9 +35,9 @@ pub struct Taking {
 
 impl Gates {
     pub fn of<P: Plan>(plan: &P, slot: Slot) -> Gates
-        ensures sending { queue_number result.sending ≡ 1 - fills plan.now (slot_number slot) }
-        ensures paid { result.paid ≡ opens plan.now (slot_number slot) 2 }
-        ensures best_effort { result.best_effort ≡ opens plan.now (slot_number slot) 3 }
+        ensures sending { queue_number result.sending ≡ 1 - P.fills plan.now (slot_number slot) }
+        ensures paid { result.paid ≡ P.opens plan.now (slot_number slot) 2 }
+        ensures best_effort { result.best_effort ≡ P.opens plan.now (slot_number slot) 3 }
     {
         Gates {
             sending: sending(plan, slot),
@@ -72,11 +72,11 @@ fn is_overdrawn(buffers: &Buffers, port: Port, tokens: u32) -> bool
 
 // Ends the leading copies of queue 2 that cost more than the tokens, and answers how many there were.
 fn end_overdrawn<S: Store>(store: &mut S, buffers: &mut Buffers, port: Port) -> u32
-    requires { Agree (marks store.old) (free buffers.old) }
+    requires { Agree (S.marks store.old) (free buffers.old) }
     ensures answer { (d : ℕ) → result ≡ length (too_dear (egress d buffers.old (port_number port)).tokens ((egress d buffers.old (port_number port)).queue 2)) }
     ensures state { (d : ℕ) → egress d buffers.new ≡ changed (egress d buffers.old) (port_number port) unburdened }
     ensures number { next_number buffers.new ≡ next_number buffers.old }
-    ensures sound { Agree (marks store.new) (free buffers.new) }
+    ensures sound { Agree (S.marks store.new) (free buffers.new) }
     ensures contents { OnlyFreed (contents buffers.old) (contents buffers.new) }
 {
     let tokens = buffers.tokens(port);
@@ -126,12 +126,12 @@ fn best_effort_part(buffers: &mut Buffers, port: Port, gates: Gates, overdrawn: 
 
 // The first copy of queue 2 that can be paid for, if that is open; else best effort.
 fn paid_part<S: Store>(store: &mut S, buffers: &mut Buffers, port: Port, gates: Gates) -> Taking
-    requires sound { Agree (marks store.old) (free buffers.old) }
+    requires sound { Agree (S.marks store.old) (free buffers.old) }
     requires out { (d : ℕ) → (egress d buffers.old (port_number port)).out ≡ None }
     ensures answer { (d : ℕ) → seen result ≡ shows (paid_part_lem gates.paid gates.best_effort (egress d buffers.old (port_number port))) }
     ensures state { (d : ℕ) → egress d buffers.new ≡ changed (egress d buffers.old) (port_number port) (λ e. (paid_part_lem gates.paid gates.best_effort e).left) }
     ensures number { next_number buffers.new ≡ next_number buffers.old }
-    ensures sound { Agree (marks store.new) (free buffers.new) }
+    ensures sound { Agree (S.marks store.new) (free buffers.new) }
     ensures contents { OnlyFreed (contents buffers.old) (contents buffers.new) }
 {
     if !gates.paid {
@@ -149,12 +149,12 @@ fn paid_part<S: Store>(store: &mut S, buffers: &mut Buffers, port: Port, gates: 
 
 // The first copy of the queue that is sent in this slot; else what is paid for, or best effort.
 pub fn take_at<S: Store>(store: &mut S, buffers: &mut Buffers, port: Port, gates: Gates) -> Taking
-    requires sound { Agree (marks store.old) (free buffers.old) }
+    requires sound { Agree (S.marks store.old) (free buffers.old) }
     requires out { (d : ℕ) → (egress d buffers.old (port_number port)).out ≡ None }
     ensures answer { (d : ℕ) → seen result ≡ shows (take_at (queue_number gates.sending) gates.paid gates.best_effort (egress d buffers.old (port_number port))) }
     ensures state { (d : ℕ) → egress d buffers.new ≡ changed (egress d buffers.old) (port_number port) (λ e. (take_at (queue_number gates.sending) gates.paid gates.best_effort e).left) }
     ensures number { next_number buffers.new ≡ next_number buffers.old }
-    ensures sound { Agree (marks store.new) (free buffers.new) }
+    ensures sound { Agree (S.marks store.new) (free buffers.new) }
     ensures contents { OnlyFreed (contents buffers.old) (contents buffers.new) }
 {
     let Some(sent) = take_first(buffers, port, gates.sending) else {

@@ -31,8 +31,8 @@ pub trait Plan {
 
 // The queue of 0 and 1 that is sent in the slot.
 pub fn sending<P: Plan>(plan: &P, slot: Slot) -> Queue
-    ensures answer { queue_number result ≡ 1 - fills plan.now (slot_number slot) }
-    ensures open { opens plan.now (slot_number slot) (queue_number result) ≡ true }
+    ensures answer { queue_number result ≡ 1 - P.fills plan.now (slot_number slot) }
+    ensures open { P.opens plan.now (slot_number slot) (queue_number result) ≡ true }
 {
     one_of_pair(1 - plan.fill(slot).number())
 }

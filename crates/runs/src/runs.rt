@@ -39,9 +39,9 @@ pub fn run<S: Store, P: Plan + Drop, R: Rule + Drop, F: Forwarding + Drop>(
     turns: &mut [Turn<'_>],
 ) -> Result<Ended<S, P, R, F>, Refusal>
     ensures answer { told (λ _. started settings) result ≡ new_answer settings.slot settings.number settings.rate settings.depth }
-    ensures statement { IfOk result (λ e. Statement settings (view marks (meant fills opens floors forwards kinds.plan kinds.rule kinds.forwarding) turns.old turns.new e)) }
+    ensures statement { IfOk result (λ e. Statement settings (view S.marks (meant P.fills P.opens R.floors F.forwards kinds.plan kinds.rule kinds.forwarding) turns.old turns.new e)) }
     ensures kinds { IfOk result (λ e. of-switch e.switch ≡ (kinds.plan, kinds.rule, kinds.forwarding)) }
-    ensures sound { IfOk result (λ e. Sound marks e.switch) }
+    ensures sound { IfOk result (λ e. Sound S.marks e.switch) }
     ensures addressed { OnOk result (AllAddressed (map asked turns.old)) }
     ensures kept { Kept result turns.old turns.new }
 {

@@ -39,7 +39,7 @@ pub fn run_twins<
     others: &mut [Turn<'_>],
 ) -> Result<BothEnded<S, P, R, F, T, Q, O, G>, Refusal>
     ensures answer { told (λ _. started settings) result ≡ new_answer settings.slot settings.number settings.rate settings.depth }
-    ensures statement { IfOk result (λ e. Twins settings (view S.Store.marks (meant P.Plan.fills P.Plan.opens R.Rule.floors F.Forwarding.forwards one.plan one.rule one.forwarding) turns.old turns.new e.one) (view T.Store.marks (meant Q.Plan.fills Q.Plan.opens O.Rule.floors G.Forwarding.forwards two.plan two.rule two.forwarding) others.old others.new e.two)) }
+    ensures statement { IfOk result (λ e. Twins settings (view S.marks (meant P.fills P.opens R.floors F.forwards one.plan one.rule one.forwarding) turns.old turns.new e.one) (view T.marks (meant Q.fills Q.opens O.floors G.forwards two.plan two.rule two.forwarding) others.old others.new e.two)) }
     ensures kept { (Kept result turns.old turns.new) × (Kept result others.old others.new) }
 {
     let one: Ended<S, P, R, F> = run(settings, one, turns)?;

@@ -35,7 +35,7 @@ pub(crate) fn find_ports<F: Forwarding>(
     forwarding: &F,
     heading: Heading,
 ) -> Result<PortSet, Refusal>
-    ensures { told set_bits result ≡ ports_by (forwards forwarding.now (address_bits heading.destination) (port_number heading.input)) (port_number heading.input) }
+    ensures { told set_bits result ≡ ports_by (F.forwards forwarding.now (address_bits heading.destination) (port_number heading.input)) (port_number heading.input) }
 {
     let port = heading.input.number();
     match forwarding.route(heading.destination, heading.input) {

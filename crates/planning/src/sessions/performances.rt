@@ -56,19 +56,19 @@ fn tell_cleared(port: u8, answer: Result<u32, Refusal>) -> Outcome
 
 impl<F: Forwarding> Session<F> {
     fn arrive(&mut self, port: u8, frame: &[u8]) -> Outcome
-        ensures { Performed (behind_in forwards self.old) self.old (arrive port frame.now ∷ []) (outcome result ∷ []) self.new }
+        ensures { Performed (behind_in F.forwards self.old) self.old (arrive port frame.now ∷ []) (outcome result ∷ []) self.new }
     {
         tell_arrived(self.switch.arrive(port, frame))
     }
 
     fn tick(&mut self) -> Outcome
-        ensures { Performed (behind_in forwards self.old) self.old (tick ∷ []) (outcome result ∷ []) self.new }
+        ensures { Performed (behind_in F.forwards self.old) self.old (tick ∷ []) (outcome result ∷ []) self.new }
     {
         tell_ticked(self.switch.tick())
     }
 
     fn clear(&mut self, port: u8) -> Outcome
-        ensures { Performed (behind_in forwards self.old) self.old (clear port ∷ []) (outcome result ∷ []) self.new }
+        ensures { Performed (behind_in F.forwards self.old) self.old (clear port ∷ []) (outcome result ∷ []) self.new }
     {
         tell_cleared(port, self.switch.clear(port))
     }
@@ -76,7 +76,7 @@ impl<F: Forwarding> Session<F> {
     // The bytes of the frame are looked at, as a port card would send them, and the ticket is returned.
     fn transmit(&mut self, ticket: Ticket, overdrawn: u32) -> Outcome
         ensures answer { outcome result ≡ sent (ticket_of ticket).port (ticket_of ticket).number overdrawn }
-        ensures performed { Performed (behind_in forwards self.old) self.old (with_ticket (Some (ticket_of ticket)) (buffer_in self.old)) [] self.new }
+        ensures performed { Performed (behind_in F.forwards self.old) self.old (with_ticket (Some (ticket_of ticket)) (buffer_in self.old)) [] self.new }
     {
         let port = ticket.port();
         let number = ticket.number();
@@ -90,7 +90,7 @@ impl<F: Forwarding> Session<F> {
     }
 
     fn send(&mut self, port: u8) -> Outcome
-        ensures { Performed (behind_in forwards self.old) self.old (calls_of (behind_in forwards self.old) (state_in self.old) (buffer_in self.old) (send port)) (outcome result ∷ []) self.new }
+        ensures { Performed (behind_in F.forwards self.old) self.old (calls_of (behind_in F.forwards self.old) (state_in self.old) (buffer_in self.old) (send port)) (outcome result ∷ []) self.new }
     {
         match self.switch.take(port) {
             Err(refusal) => Outcome::Refused(refusal),
@@ -101,7 +101,7 @@ impl<F: Forwarding> Session<F> {
 
     // What the record came to. An opening asks for no call: it is none but the first record.
     pub fn perform(&mut self, asked: Record<'_>) -> Option<Outcome>
-        ensures { Performed (behind_in forwards self.old) self.old (calls_of (behind_in forwards self.old) (state_in self.old) (buffer_in self.old) (asks asked.entry)) (map outcome (option_to_list result)) self.new }
+        ensures { Performed (behind_in F.forwards self.old) self.old (calls_of (behind_in F.forwards self.old) (state_in self.old) (buffer_in self.old) (asks asked.entry)) (map outcome (option_to_list result)) self.new }
     {
         match asked {
             Record::New(_) => None,

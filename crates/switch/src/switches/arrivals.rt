@@ -36,8 +36,8 @@ pub(crate) struct Admission {
 impl<S: Store, P: Plan, R: Rule, F: Forwarding> Switch<S, P, R, F> {
     // Judges a frame, and changes nothing.
     fn admit(&self, port: u8, bytes: &[u8]) -> Result<Admission, Refusal>
-        requires { Sound marks self.now }
-        ensures { told admission result ≡ judged (arrive_checks (behind fills opens floors forwards self.now) (state self.now) port bytes.now) (class bytes.now, set_of (way_of (behind fills opens floors forwards self.now) (state self.now) port bytes.now)) }
+        requires { Sound S.marks self.now }
+        ensures { told admission result ≡ judged (arrive_checks (behind P.fills P.opens R.floors F.forwards self.now) (state self.now) port bytes.now) (class bytes.now, set_of (way_of (behind P.fills P.opens R.floors F.forwards self.now) (state self.now) port bytes.now)) }
     {
         let heading = read_heading(port, bytes)?;
         if self.buffers.next() >= NUMBERS {
@@ -55,16 +55,16 @@ impl<S: Store, P: Plan, R: Rule, F: Forwarding> Switch<S, P, R, F> {
 
     // Gives a frame that was admitted a cell and a number, and lays its copies.
     fn accept(&mut self, admission: Admission, bytes: &[u8]) -> FrameNumber
-        requires sound { Sound marks self.old }
-        requires room { 0 < free_count (cells marks self.old) }
+        requires sound { Sound S.marks self.old }
+        requires room { 0 < free_count (cells S.marks self.old) }
         requires ports { 0 < set_bits admission.ports }
         requires fits { fits bytes.now ≡ true }
         requires numbers { (state self.old).next < 2 ^ 48 }
         ensures answer { result.0 ≡ (state self.old).next }
-        ensures state { state self.new ≡ let_in (state self.old) (fills self.old.plan (state self.old).slot) (class_number admission.class) (set_bits admission.ports) bytes.now }
+        ensures state { state self.new ≡ let_in (state self.old) (P.fills self.old.plan (state self.old).slot) (class_number admission.class) (set_bits admission.ports) bytes.now }
         ensures kinds { kinds self.new ≡ kinds self.old }
-        ensures sound { Sound marks self.new }
-        ensures cells { Grants (cells marks self.old) (cells marks self.new) }
+        ensures sound { Sound S.marks self.new }
+        ensures cells { Grants (cells S.marks self.old) (cells S.marks self.new) }
         ensures contents { LetIn (state self.old).next (contents self.old) (contents self.new) }
     {
         let cell = self.store.grant().unwrap();
@@ -76,12 +76,12 @@ impl<S: Store, P: Plan, R: Rule, F: Forwarding> Switch<S, P, R, F> {
 
     // A frame that no check refuses gets a number, a cell, and a copy at each port that it goes to.
     pub fn arrive(&mut self, port: u8, bytes: &[u8]) -> Result<Arrived, Refusal>
-        requires { Sound marks self.old }
-        ensures answer { told arrived result ≡ arrive_answer (behind fills opens floors forwards self.old) (state self.old) port bytes.now }
-        ensures state { state self.new ≡ arrive_state (behind fills opens floors forwards self.old) (state self.old) port bytes.now }
+        requires { Sound S.marks self.old }
+        ensures answer { told arrived result ≡ arrive_answer (behind P.fills P.opens R.floors F.forwards self.old) (state self.old) port bytes.now }
+        ensures state { state self.new ≡ arrive_state (behind P.fills P.opens R.floors F.forwards self.old) (state self.old) port bytes.now }
         ensures kinds { kinds self.new ≡ kinds self.old }
-        ensures sound { Sound marks self.new }
-        ensures cells { CellsAfter (cells marks self.old) (told arrived result) (cells marks self.new) }
+        ensures sound { Sound S.marks self.new }
+        ensures cells { CellsAfter (cells S.marks self.old) (told arrived result) (cells S.marks self.new) }
         ensures contents { ContentsAfter (granted (told arrived result)) (contents self.old) (contents self.new) }
         ensures kept { Kept result self.old self.new }
         ensures addressed { destination bytes.now < 2 ^ 48 }

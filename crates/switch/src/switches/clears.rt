@@ -14,11 +14,11 @@ use frame::refusals::Refusal;
 impl<S: Store, P, R, F> Switch<S, P, R, F> {
     // Queued or out, it ends; the answer is how many copies there were. The tokens stay.
     pub fn clear(&mut self, port: u8) -> Result<u32, Refusal>
-        requires { Sound marks self.old }
+        requires { Sound S.marks self.old }
         ensures answer { told (λ n. n) result ≡ clear_answer (state self.old) port }
         ensures state { state self.new ≡ clear_state (state self.old) port }
         ensures kinds { kinds self.new ≡ kinds self.old }
-        ensures sound { Sound marks self.new }
+        ensures sound { Sound S.marks self.new }
         ensures contents { OnlyFreed (contents self.old) (contents self.new) }
         ensures kept { Kept result self.old self.new }
     {

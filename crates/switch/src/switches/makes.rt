@@ -22,11 +22,11 @@ use gates::plans::Plan;
 impl<S: Store, P: Plan, R: Rule, F: Forwarding> Switch<S, P, R, F> {
     // Take, whose ticket goes into the answer as numbers: who made the list returns it.
     fn take_numbers(&mut self, port: u8) -> Result<Taken, Refusal>
-        requires { Sound marks self.old }
-        ensures answer { told taken result ≡ take_answer (behind fills opens floors forwards self.old) (state self.old) port }
-        ensures state { state self.new ≡ take_state (behind fills opens floors forwards self.old) (state self.old) port }
+        requires { Sound S.marks self.old }
+        ensures answer { told taken result ≡ take_answer (behind P.fills P.opens R.floors F.forwards self.old) (state self.old) port }
+        ensures state { state self.new ≡ take_state (behind P.fills P.opens R.floors F.forwards self.old) (state self.old) port }
         ensures kinds { kinds self.new ≡ kinds self.old }
-        ensures sound { Sound marks self.new }
+        ensures sound { Sound S.marks self.new }
         ensures contents { OnlyFreed (contents self.old) (contents self.new) }
         ensures kept { Kept result self.old self.new }
     {
@@ -50,12 +50,12 @@ impl<S: Store, P: Plan, R: Rule, F: Forwarding> Switch<S, P, R, F> {
 
     // Makes the call. Only Look writes to the buffer.
     pub fn make(&mut self, call: Call<'_>, buffer: &mut [u8]) -> Answer
-        requires { Sound marks self.old }
-        ensures answer { answer_with result buffer.new ≡ answer_of (behind fills opens floors forwards self.old) (state self.old) (call_with call.entry buffer.old) }
+        requires { Sound S.marks self.old }
+        ensures answer { answer_with result buffer.new ≡ answer_of (behind P.fills P.opens R.floors F.forwards self.old) (state self.old) (call_with call.entry buffer.old) }
         ensures buffer { buffer.new ≡ buffer_after (answer_with result buffer.new) buffer.old }
-        ensures state { state self.new ≡ state_after (behind fills opens floors forwards self.old) (state self.old) (call_with call.entry buffer.old) }
+        ensures state { state self.new ≡ state_after (behind P.fills P.opens R.floors F.forwards self.old) (state self.old) (call_with call.entry buffer.old) }
         ensures kinds { kinds self.new ≡ kinds self.old }
-        ensures sound { Sound marks self.new }
+        ensures sound { Sound S.marks self.new }
         ensures contents { ContentsAfter (arrived_in (answer_with result buffer.new)) (contents self.old) (contents self.new) }
         ensures kept { refuses (answer_with result buffer.new) ≡ true → self.new ≡ self.old }
         ensures addressed { Addressed (call_with call.entry buffer.old) }

@@ -17,11 +17,11 @@ use frame::refusals::Refusal;
 impl<S: Store, P, R, F> Switch<S, P, R, F> {
     // The ticket is spent, also where it is refused.
     pub fn return_ticket(&mut self, ticket: Ticket) -> Result<Returned, Refusal>
-        requires { Sound marks self.old }
+        requires { Sound S.marks self.old }
         ensures answer { told returned result ≡ return_answer (state self.old) (ticket_of ticket).port (ticket_of ticket).number }
         ensures state { state self.new ≡ return_state (state self.old) (ticket_of ticket).port (ticket_of ticket).number }
         ensures kinds { kinds self.new ≡ kinds self.old }
-        ensures sound { Sound marks self.new }
+        ensures sound { Sound S.marks self.new }
         ensures contents { OnlyFreed (contents self.old) (contents self.new) }
         ensures kept { Kept result self.old self.new }
     {

@@ -46,8 +46,8 @@ impl<S: Store, P: Plan + Drop, R: Rule + Drop, F: Forwarding + Drop> Switch<S, P
     ) -> Result<Switch<S, P, R, F>, Refusal>
         ensures answer { told state result ≡ new_answer slot number rate depth }
         ensures kinds { IfOk result (λ s. kinds s ≡ (plan, rule, forwarding)) }
-        ensures cells { IfOk result (λ s. cells marks s ≡ all_free) }
-        ensures sound { IfOk result (λ s. Sound marks s) }
+        ensures cells { IfOk result (λ s. cells S.marks s ≡ all_free) }
+        ensures sound { IfOk result (λ s. Sound S.marks s) }
     {
         let Some(slot) = Slot::new(slot) else {
             return Err(Refusal::BadSetting(FIRST_SLOT));

@@ -22,11 +22,11 @@ use gates::plans::Plan;
 impl<S: Store, P: Plan, R: Rule, F: Forwarding> Switch<S, P, R, F> {
     // What is sent in this slot comes first, then what is paid for, then best effort.
     pub fn take(&mut self, port: u8) -> Result<Took, Refusal>
-        requires { Sound marks self.old }
-        ensures answer { told took result ≡ take_answer (behind fills opens floors forwards self.old) (state self.old) port }
-        ensures state { state self.new ≡ take_state (behind fills opens floors forwards self.old) (state self.old) port }
+        requires { Sound S.marks self.old }
+        ensures answer { told took result ≡ take_answer (behind P.fills P.opens R.floors F.forwards self.old) (state self.old) port }
+        ensures state { state self.new ≡ take_state (behind P.fills P.opens R.floors F.forwards self.old) (state self.old) port }
         ensures kinds { kinds self.new ≡ kinds self.old }
-        ensures sound { Sound marks self.new }
+        ensures sound { Sound S.marks self.new }
         ensures contents { OnlyFreed (contents self.old) (contents self.new) }
         ensures kept { Kept result self.old self.new }
     {

@@ -18,11 +18,11 @@ use gates::plans::Plan;
 impl<S: Store, P: Plan, R: Rule, F: Forwarding> Switch<S, P, R, F> {
     // What still waits in the queue that is to fill ends late, and every port gets new tokens.
     pub fn tick(&mut self) -> Result<Ticked, Refusal>
-        requires { Sound marks self.old }
-        ensures answer { told ticked result ≡ tick_answer (behind fills opens floors forwards self.old) (state self.old) }
-        ensures state { state self.new ≡ tick_state (behind fills opens floors forwards self.old) (state self.old) }
+        requires { Sound S.marks self.old }
+        ensures answer { told ticked result ≡ tick_answer (behind P.fills P.opens R.floors F.forwards self.old) (state self.old) }
+        ensures state { state self.new ≡ tick_state (behind P.fills P.opens R.floors F.forwards self.old) (state self.old) }
         ensures kinds { kinds self.new ≡ kinds self.old }
-        ensures sound { Sound marks self.new }
+        ensures sound { Sound S.marks self.new }
         ensures contents { OnlyFreed (contents self.old) (contents self.new) }
         ensures kept { Kept result self.old self.new }
     {
