@@ -1,4 +1,4 @@
-// What the port card's firmware calls, from C.
+// What the port card's firmware calls: crate frame_c exports it to C.
 ghost use Rattle.std.specs.Prelude.{◌≡◌};
 ghost use Rattle.frame.specs.Frames.{firmware_class};
 
@@ -8,8 +8,7 @@ use crate::readings::read;
 pub const NO_CLASS: u8 = 255;
 
 // The class of a frame, or NO_CLASS for a wrong length.
-#[unsafe(no_mangle)]
-pub extern "C" fn frame_class(bytes: &[u8]) -> u8
+pub fn frame_class(bytes: &[u8]) -> u8
     ensures { result ≡ firmware_class bytes.now }
 {
     match read(bytes) {
