@@ -53,7 +53,7 @@ pub fn reaches<F: Forwarding>(
     input: Port,
     output: Port,
 ) -> bool
-    ensures { result ≡ leaves_at (forwards forwarding.now (address_bits destination) (port_number input)) (port_number output) }
+    ensures { result ≡ leaves_at (F.forwards forwarding.now (address_bits destination) (port_number input)) (port_number output) }
 {
     match forwarding.route(destination, input) {
         Route::Ports(set) => set.has(output),
