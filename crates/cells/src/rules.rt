@@ -21,7 +21,7 @@ pub trait Rule {
 
 // Whether a frame of this class is admitted where so many cells are free.
 pub fn admits<R: Rule>(rule: &R, class: Class, free: usize) -> bool
-    ensures { result ≡ admitted (floors rule.now (class_number class)) free }
+    ensures { result ≡ admitted (R.floors rule.now (class_number class)) free }
 {
     rule.floor(class) <= free
 }

@@ -34,8 +34,8 @@ pub trait Store {
 
 // Takes every free cell out, and answers which came.
 pub fn drain<S: Store>(store: &mut S) -> [bool; CELLS]
-    ensures answer { result ≡ marks store.old }
-    ensures state { free_count (marks store.new) ≡ 0 }
+    ensures answer { result ≡ S.marks store.old }
+    ensures state { free_count (S.marks store.new) ≡ 0 }
 {
     let mut came = [false; CELLS];
     for _turn in 0..CELLS {

@@ -3,7 +3,6 @@ ghost use Rattle.std.specs.Prelude.{◌≡◌, [], map};
 ghost use Rattle.frame.specs.Refusals.{told};
 ghost use Rattle.cells.specs.Stores.{Granted, all_free, cell_number};
 ghost use Rattle.cells.specs.Recordings.{recorded, written, written_as};
-ghost use Rattle.std.proofs.Common.{rules, arith};
 
 use crate::recordings::{MOST_RECORDED, Recording};
 use crate::stores::Store;
@@ -34,7 +33,7 @@ impl<S> Recording<S> {
 impl<S: Store> Store for Recording<S> {
     ghost marks = { λ r. S.Store.marks r.below };
 
-    ghost wide = { first_of (Prim.search rules, Prim.grind (arith, Self.row.coded.inj)) };
+    ghost wide = { λ r. S.Store.wide r.below };
 
     fn fresh() -> Recording<S>
         ensures answer { S.Store.marks result.below ≡ all_free }

@@ -6,7 +6,7 @@ use Rattle.cells.proofs.rings.methods.RingStore.fresh.Goals as goal
 
 pub invariant_of-result : goal.invariant_of-result
 unfolding all_free
-invariant_of-result c = (omega arith, (ap marked (turn_all _ c.in_order.ensures) ∙ first_marked, (refl, tt)))
+invariant_of-result c = record { within = omega arith; exact = ap marked (turn_all _ c.in_order.ensures) ∙ first_marked; counted = refl }
 
 pub returns : goal.returns
 unfolding all_free

@@ -16,7 +16,7 @@ overflow_add-self c =
 pub invariant_of-self : goal.invariant_of-self
 invariant_of-self c =
     let g = given (ring_sound c.args.self.now (omega arith)) c.args.cell.0 (sym c.if-not-holds.ensures) in
-    (c.args.self.now.within, (g.exact, (g.counted, tt)))
+    record { within = c.args.self.now.within; exact = g.exact; counted = g.counted }
 
 pub returns : goal.returns
 returns c =

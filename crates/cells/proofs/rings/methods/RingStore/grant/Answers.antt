@@ -9,7 +9,7 @@ bounds-self-cell c = omega (arith, (taken (ring_sound c.args.self.now (omega ari
 pub invariant_of-self : goal.invariant_of-self
 invariant_of-self c =
     let t = taken (ring_sound c.args.self.now (omega arith)) (omega arith) in
-    (omega arith, (t.exact, (t.counted, tt)))
+    record { within = omega arith; exact = t.exact; counted = t.counted }
 
 pub returns : goal.returns
 returns c =
