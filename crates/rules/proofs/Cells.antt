@@ -1,12 +1,12 @@
 -- The cells over a run: its events so far, one more at the end, and what they keep. Assumes nothing.
-use Rattle.std.proofs.Common.{◌≡◌, ℕ, ◌+◌, ◌<◌, Bool, true, false, not, ◌⊎◌, List, [], ◌∷◌, ◌++◌, map, set, is_some, Some, None, Option, sym, refl, ap, ◌∙◌, subst, inl, inr, ⊎_elim, arith}
+use Rattle.std.proofs.Common.{◌≡◌, ℕ, ◌+◌, ◌<◌, Bool, true, false, not, eqb, ◌⊎◌, List, [], ◌∷◌, ◌++◌, map, set, is_some, Some, None, Option, sym, refl, ap, ◌∙◌, subst, inl, inr, ⊎_elim, arith}
 use Rattle.std.proofs.lemmas.List.{append_assoc, ext_get_or, get_or-set_other, get_or-set_same, length-set, map-append, map_push}
-use Rattle.std.proofs.lemmas.Map.{update_apart, update_here}
-use Rattle.std.proofs.lemmas.Bool.{both_ways, cases_eq}
+use Rattle.std.proofs.lemmas.Map.{update_here}
+use Rattle.std.proofs.lemmas.Bool.{both_ways, cases_eq, cond-false, ne_eqb}
 use Rattle.cells.specs.Stores.{all_free, cell_count, free_at}
 use Rattle.rules.specs.Copies.{put}
 use Rattle.rules.specs.Switch.{Arrived, Behind, State, new_state, numbers}
-use Rattle.rules.specs.Runs.{Call, answer_of, arrived_in, bit, last, moment, run, state_after}
+use Rattle.rules.specs.Runs.{Call, answer_of, arrived_in, bit, last, moment, state_after}
 use Rattle.rules.specs.Laws.{Admits, Lawful, is_arrived, refuses}
 use Rattle.rules.specs.Stories.{Story, Tied}
 use Rattle.rules.specs.Cells.{Accounted, Among, Cells, Chained, ContentsAfter, Event, GrantedTo, HasCopy, LetIn, OnlyFreed, Throughout}
@@ -145,7 +145,7 @@ module _ {b : Behind} {slot number rate depth : ℕ} {calls : List Call} {s : St
     let_here = ap (λ f. f k) p ∙ update_here contents k (Some n)
 
     let_apart : (j : ℕ) → (j ≡ k → ⊥) → contents' j ≡ contents j
-    let_apart j d = ap (λ f. f j) p ∙ update_apart contents k (Some n) j d
+    let_apart j d = ap (λ f. f j) p ∙ cond-false (eqb j k) (Some n) (contents j) (ne_eqb j k d)
 
   granted_now : is_arrived (moment b s c) ≡ true → (k : ℕ) × (k < cell_count) × (free_at marks k ≡ true) × (marks' ≡ set marks k false)
   granted_now h =

@@ -1,8 +1,8 @@
 -- The edges, by evaluation. Assumes nothing.
-use Rattle.std.proofs.Common.{◌≡◌, ℕ, ◌/◌, true, eqb, List, get_or, refl, ap, ◌∙◌}
+use Rattle.std.proofs.Common.{◌≡◌, ℕ, ◌/◌, true, List, get_or, refl, ap, ◌∙◌}
 use Rattle.std.proofs.lemmas.Bool.{eq-eqb, cond-true}
-use Rattle.frame.specs.Classes.{class_of, class_of_priority}
-use Rattle.frame.specs.Frames.{class, outer_type, tagged, priority, inner_type}
+use Rattle.frame.specs.Classes.{class_of_priority}
+use Rattle.frame.specs.Frames.{class, outer_type, tagged}
 use Rattle.rules.specs.Edges.{Edges}
 
 -- the class of a tagged frame, by the first byte of its tag

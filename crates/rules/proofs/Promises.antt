@@ -1,7 +1,7 @@
 -- What is promised of a run that is under way. Assumes nothing.
 use Rattle.std.proofs.Common.{ℕ, ◌<◌, Bool, List, Option, sym, subst}
 use Rattle.rules.specs.Switch.{Behind, State, new_state, numbers}
-use Rattle.rules.specs.Runs.{Call, last, run}
+use Rattle.rules.specs.Runs.{Call, run}
 use Rattle.rules.specs.Laws.{Holds, Lawful}
 use Rattle.rules.specs.Promises.{Promise, moments}
 use Rattle.rules.specs.Stories.{Story}

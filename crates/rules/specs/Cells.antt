@@ -3,7 +3,7 @@ use Rattle.std.specs.Prelude.{◌≡◌, ℕ, ◌+◌, ◌<◌, Bool, true, fals
 use Rattle.cells.specs.Stores.{all_free, cell_count, free_at, free_count}
 use Rattle.rules.specs.Copies.{put}
 use Rattle.rules.specs.Switch.{State, Arrived, free}
-use Rattle.rules.specs.Runs.{Moment, Answer, arrived_in, queued, out_there}
+use Rattle.rules.specs.Runs.{Moment, arrived_in, queued, out_there}
 use Rattle.rules.specs.Laws.{Admits, is_arrived, refuses}
 
 -- x is one of the list xs, and these are the ones before it

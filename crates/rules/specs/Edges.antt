@@ -3,7 +3,7 @@ use Rattle.std.specs.Prelude.{◌≡◌, ℕ, ◌-◌, ◌^◌, true, false, Lis
 use Rattle.cells.specs.Rules.{admitted, ladder_floors, floors_under}
 use Rattle.forwarding.specs.Flows.{flow_of_lem}
 use Rattle.frame.specs.Frames.{class, outer_type}
-use Rattle.frame.specs.Refusals.{Told, refused}
+use Rattle.frame.specs.Refusals.{refused}
 use Rattle.gates.specs.GateLists.{list_fills}
 use Rattle.gates.specs.Loads.{load_as}
 use Rattle.rules.specs.Copies.{refilled}
