@@ -1,5 +1,4 @@
 -- What the code's outcomes stand for. Assumes nothing.
-use Rattle.std.specs.Prelude.{ℕ}
 use Rattle.frame.specs.Classes.{class_number}
 use Rattle.frame.specs.Numbers.{set_bits, slot_number}
 use Rattle.frame.specs.Refusals.{says}

@@ -1,8 +1,7 @@
-use Rattle.std.proofs.Common.{◌≡◌, ℕ, ◌-◌, List, [], ◌∷◌, ◌++◌, take, decimal, sym, ap, ◌∙◌, subst, arith}
+use Rattle.std.proofs.Common.{ℕ, List, [], ◌∷◌, ◌++◌, take, decimal, ap, ◌∙◌, subst, arith}
 use Rattle.lines.proofs.Writes.{Short, There, failed, short_first, short_on, wrote_on}
 use Rattle.lines.specs.Lines.{Outcome, line, spaced, values, word}
 use Rattle.lines.specs.Outcomes.{outcome}
-use Rattle.lines.specs.Texts.{Wrote}
 use Rattle.lines.proofs.lines.write_line.Goals as goal
 
 -- the parts of the line

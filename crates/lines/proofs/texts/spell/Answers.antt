@@ -1,4 +1,4 @@
-use Rattle.std.proofs.Common.{◌<◌, ◌≤◌, refl, ◌∙◌, arith, length-set}
+use Rattle.std.proofs.Common.{refl, ◌∙◌, arith, length-set}
 use Rattle.lines.proofs.Digits.{spelled, spelling_none, spelling_on, two_rooms}
 use Rattle.lines.proofs.texts.spell.Goals as goal
 
