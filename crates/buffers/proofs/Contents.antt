@@ -1,10 +1,10 @@
 -- A frame that is in a cell has a copy, and a frame that has a copy is in a cell. Assumes nothing.
-use Rattle.std.proofs.Common.{◌≡◌, ℕ, zero, suc, ◌+◌, ◌<◌, ◌≤◌, Bool, true, false, cond, eqb, List, [], ◌∷◌, map, length, get_or, Some, None, Option, sym, refl, ap, ◌∙◌, ⊎_elim, arith}
+use Rattle.std.proofs.Common.{◌≡◌, ℕ, ◌+◌, ◌<◌, ◌≤◌, Bool, true, false, cond, eqb, List, [], ◌∷◌, map, get_or, Some, None, sym, refl, ap, ◌∙◌, ⊎_elim, arith}
 use Rattle.std.proofs.lemmas.List.{get_or_past}
-use Rattle.std.proofs.lemmas.Bool.{cases_Bool, cases_eq, cases_lt, cond-false, cond-true, eq-eqb, eqb-false, eqb-true, ne_eqb}
+use Rattle.std.proofs.lemmas.Bool.{cases_Bool, cases_eq, cases_lt, cond-false, eq-eqb, eqb-false, eqb-true, ne_eqb}
 use Rattle.std.specs.Option.{option_to_list}
 use Rattle.rules.proofs.Totals.{total_append}
-use Rattle.rules.specs.Copies.{Copy, copies_at, queued_at}
+use Rattle.rules.specs.Copies.{copies_at, queued_at}
 use Rattle.rules.specs.Runs.{bit, count, numbered}
 use Rattle.buffers.proofs.Held.{copies_line, copy, entries_at, sum_at}
 use Rattle.buffers.proofs.Soundness.{fine, in_other, in_own}

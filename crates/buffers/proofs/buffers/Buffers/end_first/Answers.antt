@@ -18,7 +18,7 @@ invariant_of-self c =
     let l = lines b.board p in
     let prices = shifted_prices l (price_of (notes b.frames)) (b.priced p c.args.port.within) k c.args.queue.within in
     let s = sound_kept b p c.args.port.within (shifted l k) c.pop.new.self c.pop.ensures.state prices (none_gone l k c.args.queue.within (sym c.in_default.is ∙ c.pop.ensures.answer)) in
-    (b.wide, (s.counted, (s.known, (s.once, (s.priced, (s.short, (s.costed, (s.long, (s.apart, (s.young, (s.last, tt)))))))))))
+    record { wide = b.wide; counted = s.counted; known = s.known; once = s.once; priced = s.priced; short = s.short; costed = s.costed; long = s.long; apart = s.apart; young = s.young; last = s.last }
 
 pub returns-in_default : goal.returns-in_default
 returns-in_default c =
@@ -52,7 +52,7 @@ invariant_of-self-2 c =
     let l = lines b.board p in
     let prices = shifted_prices l (price_of (notes b.frames)) (b.priced p c.args.port.within) k c.args.queue.within in
     let s = sound_less b p c.args.port.within (shifted l k) c.pop.new.self c.pop.ensures.state prices c.in-Some.first (first_gone l k c.args.queue.within c.in-Some.first (sym c.in-Some.is ∙ c.pop.ensures.answer)) c.uncount.new.counts c.uncount.ensures.state in
-    (c.uncount.ensures.wide, (s.counted, (s.known, (s.once, (s.priced, (s.short, (s.costed, (s.long, (s.apart, (s.young, (s.last, tt)))))))))))
+    record { wide = c.uncount.ensures.wide; counted = s.counted; known = s.known; once = s.once; priced = s.priced; short = s.short; costed = s.costed; long = s.long; apart = s.apart; young = s.young; last = s.last }
 
 pub returns : goal.returns
 returns c =

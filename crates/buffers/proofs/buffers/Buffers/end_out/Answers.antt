@@ -13,7 +13,7 @@ invariant_of-self c =
     let p = port_number c.args.port in
     let l = lines b.board p in
     let s = sound_kept b p c.args.port.within (with_out l None) c.take_out.new.self c.take_out.ensures.state (b.priced p c.args.port.within) (no_out_gone l (sym c.in_default.is ∙ c.take_out.ensures.answer)) in
-    (b.wide, (s.counted, (s.known, (s.once, (s.priced, (s.short, (s.costed, (s.long, (s.apart, (s.young, (s.last, tt)))))))))))
+    record { wide = b.wide; counted = s.counted; known = s.known; once = s.once; priced = s.priced; short = s.short; costed = s.costed; long = s.long; apart = s.apart; young = s.young; last = s.last }
 
 pub returns-in_default : goal.returns-in_default
 returns-in_default c =
@@ -42,7 +42,7 @@ invariant_of-self-2 c =
     let p = port_number c.args.port in
     let l = lines b.board p in
     let s = sound_less b p c.args.port.within (with_out l None) c.take_out.new.self c.take_out.ensures.state (b.priced p c.args.port.within) c.in-Some.sent (out_gone l c.in-Some.sent (sym c.in-Some.is ∙ c.take_out.ensures.answer)) c.uncount.new.counts c.uncount.ensures.state in
-    (c.uncount.ensures.wide, (s.counted, (s.known, (s.once, (s.priced, (s.short, (s.costed, (s.long, (s.apart, (s.young, (s.last, tt)))))))))))
+    record { wide = c.uncount.ensures.wide; counted = s.counted; known = s.known; once = s.once; priced = s.priced; short = s.short; costed = s.costed; long = s.long; apart = s.apart; young = s.young; last = s.last }
 
 pub returns : goal.returns
 returns c =

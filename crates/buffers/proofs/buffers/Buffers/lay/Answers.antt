@@ -36,7 +36,7 @@ invariant_of-self c =
     (λ ls. Sound ls b.memory (notes b.frames) (λ q. get_or counts q 0) b.next)
     (sym c.push.ensures)
     (one_more (sound_of b) p c.args.port.within (pushed l k e x) (pushed_prices l (price_of (notes b.frames)) (b.priced p c.args.port.within) e x (ap (λ n. n.cost) c.get-kept.ensures) k c.args.queue.within) e (λ q. get_or counts q 0) (λ f. pushed_sum f l e x k c.args.queue.within) (no_stray (notes b.frames) e c.requires.cell c.requires.filled (ap (λ n. n.number) (sym c.get-kept.ensures))) c.requires.copies (set_put b.counts 0 cell _ within)) in
-    (length-set b.counts cell _ ∙ b.wide, (s.counted, (s.known, (s.once, (s.priced, (s.short, (s.costed, (s.long, (s.apart, (s.young, (s.last, tt)))))))))))
+    record { wide = length-set b.counts cell _ ∙ b.wide; counted = s.counted; known = s.known; once = s.once; priced = s.priced; short = s.short; costed = s.costed; long = s.long; apart = s.apart; young = s.young; last = s.last }
 
 pub returns : goal.returns
 returns c =

@@ -9,7 +9,7 @@ use Rattle.buffers.proofs.buffers.Buffers.new.Goals as goal
 pub invariant_of-result : goal.invariant_of-result
 invariant_of-result c =
     let s = new_sound {ls = lines c.new.result} {m = c.new-2.result} {ns = notes c.new-3.result} {cs = λ c. 0} {next = c.args.first} (λ p. cond (ltb p 4) c.args.tokens 0) c.new.ensures c.new-3.ensures (λ c. refl) c.requires in
-    (refl, ((λ q. same_everywhere 32 0 q ∙ s.counted q), (s.known, (s.once, (s.priced, (s.short, (s.costed, (s.long, (s.apart, (s.young, (s.last, tt)))))))))))
+    record { wide = refl; counted = λ q. same_everywhere 32 0 q ∙ s.counted q; known = s.known; once = s.once; priced = s.priced; short = s.short; costed = s.costed; long = s.long; apart = s.apart; young = s.young; last = s.last }
 
 pub returns : goal.returns
 returns c =

@@ -1,6 +1,6 @@
 use Rattle.std.proofs.Common.{Some, sym, ap, ◌∙◌}
 use Rattle.std.specs.Option.{option_map}
-use Rattle.frame.specs.Numbers.{port-number}
+use Rattle.frame.specs.Numbers.{port_number}
 use Rattle.buffers.proofs.Reading.{out_at}
 use Rattle.buffers.specs.Sent.{copy_sent}
 use Rattle.buffers.proofs.buffers.Buffers.out.Goals as goal

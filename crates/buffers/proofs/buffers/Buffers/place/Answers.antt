@@ -16,13 +16,13 @@ invariant_of-self c =
     let f = c.args.frame.now in
     let cell = c.args.cell.0 in
     let note : Note = record { number = b.next; length = length f; class = class_number c.args.class; cost = c.cost_of-cost.result } in
-    let is = frame_placed b m cell note c.requires.unused c.write.ensures.others f refl c.write.ensures.own_val in
+    let is = frame_placed b m cell note c.requires.unused c.write.ensures.others f refl c.write.ensures.own in
     let costs = c.cost_of-cost.ensures ∙ ap cost (sym is) in
     let s = subst
     (λ ns. Sound (lines b.board) m ns (λ q. get_or b.counts q 0) (b.next + 1))
     (sym c.put.ensures)
     (sound_placed b m cell note c.requires.unused c.write.ensures.others c.requires.some c.requires.short refl c.requires.numbers costs (ap (λ x. length x.bytes) is)) in
-    (b.wide, (s.counted, (s.known, (s.once, (s.priced, (s.short, (s.costed, (s.long, (s.apart, (s.young, (s.last, tt)))))))))))
+    record { wide = b.wide; counted = s.counted; known = s.known; once = s.once; priced = s.priced; short = s.short; costed = s.costed; long = s.long; apart = s.apart; young = s.young; last = s.last }
 
 pub returns : goal.returns
 returns c =
@@ -36,7 +36,7 @@ returns c =
       state = λ d. (λ i. egress_of d m (c.put.ensures i) (lines b.board)) ∙ view_kept b m cell note c.requires.unused c.write.ensures.others d;
       cells = refl;
       number = refl;
-      frame = (λ i. frame_in m (c.put.ensures i) cell) ∙ frame_placed b m cell note c.requires.unused c.write.ensures.others f refl c.write.ensures.own_val;
+      frame = (λ i. frame_in m (c.put.ensures i) cell) ∙ frame_placed b m cell note c.requires.unused c.write.ensures.others f refl c.write.ensures.own;
       others = λ q other. ap (λ ns. (ns q).number) c.put.ensures ∙ ap (λ n. n.number) (put_other (notes b.frames) cell note q other);
       filled = (λ i. ltb 0 (c.put.ensures i cell).length) ∙ ap (λ n. ltb 0 n.length) (put_same (notes b.frames) cell note cell refl) ∙ lt-ltb 0 (length f) c.requires.some;
       copies = not_at b m cell note c.requires.unused c.write.ensures.others;

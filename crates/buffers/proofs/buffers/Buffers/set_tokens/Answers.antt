@@ -11,7 +11,7 @@ invariant_of-self c =
     let b = c.args.self.now in
     let p = port_number c.args.port in
     let s = sound_kept b p c.args.port.within (with_tokens (lines b.board p) c.args.tokens) c.set_tokens.new.self c.set_tokens.ensures (b.priced p c.args.port.within) (λ f. refl) in
-    (b.wide, (s.counted, (s.known, (s.once, (s.priced, (s.short, (s.costed, (s.long, (s.apart, (s.young, (s.last, tt)))))))))))
+    record { wide = b.wide; counted = s.counted; known = s.known; once = s.once; priced = s.priced; short = s.short; costed = s.costed; long = s.long; apart = s.apart; young = s.young; last = s.last }
 
 pub returns : goal.returns
 returns c =

@@ -25,7 +25,7 @@ invariant_of-self c =
     let none = mapped_none (copy_of b.memory (notes b.frames)) l.out (ap (λ e. e.out) (sym (at_port b.memory (notes b.frames) 0 (lines b.board) p c.args.port.within)) ∙ c.requires 0) in
     let prices = shifted_prices l (price_of (notes b.frames)) (b.priced p c.args.port.within) k c.args.queue.within in
     let s = sound_kept b p c.args.port.within (outed l k) c.take.new.self c.take.ensures prices (λ f. outed_sum f l none k c.args.queue.within) in
-    (b.wide, (s.counted, (s.known, (s.once, (s.priced, (s.short, (s.costed, (s.long, (s.apart, (s.young, (s.last, tt)))))))))))
+    record { wide = b.wide; counted = s.counted; known = s.known; once = s.once; priced = s.priced; short = s.short; costed = s.costed; long = s.long; apart = s.apart; young = s.young; last = s.last }
 
 pub returns : goal.returns
 returns c =
