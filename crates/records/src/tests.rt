@@ -66,7 +66,7 @@ fn opens(answer: Result<Option<Record>, Refusal>) -> bool {
 
 fn arrives(answer: Result<Option<Record>, Refusal>) -> bool {
     match answer {
-        Ok(Some(Record::Arrive { port, frame })) => port == 2 && frame == &[0xAA, 0xBB],
+        Ok(Some(Record::Arrive { port, frame })) => port == 2 && frame == [0xAA, 0xBB].as_slice(),
         _ => false,
     }
 }
