@@ -1,6 +1,6 @@
 -- The queues of a port emptied one after the other. Assumes nothing.
-use Rattle.std.proofs.Common.{◌≡◌, ℕ, zero, suc, ◌+◌, ◌*◌, ◌<◌, ◌≤◌, Bool, true, false, cond, eqb, ltb, List, [], ◌++◌, map, length, is_some, Some, None, Option, sym, refl, ap, ◌∙◌, ⊎_elim, add-one, arith, length-append}
-use Rattle.std.proofs.lemmas.Bool.{cases_lt, cases_order, cond_both, cond-false, cond-true, eq-eqb, le-ltb, lt-ltb, ne_eqb}
+use Rattle.std.proofs.Common.{◌≡◌, ℕ, zero, suc, ◌+◌, ◌*◌, ◌≤◌, Bool, true, false, cond, eqb, ltb, List, [], ◌++◌, map, length, is_some, Some, None, Option, sym, refl, ap, ◌∙◌, ⊎_elim, add-one, arith, length-append}
+use Rattle.std.proofs.lemmas.Bool.{cases_order, cond_both, cond-false, cond-true, eq-eqb, le-ltb, lt-ltb, ne_eqb}
 use mir.Val.{bool_byte}
 use Rattle.std.specs.Option.{option_to_list}
 use Rattle.buffers.proofs.FourPorts.{no_fifth}

@@ -1,5 +1,5 @@
 -- The copy that a ticket is for, where it is found. Assumes nothing.
-use Rattle.std.proofs.Common.{◌≡◌, ℕ, Bool, true, false, cond, eqb, ltb, Some, None, Option, sym, refl, ap, ◌∙◌}
+use Rattle.std.proofs.Common.{◌≡◌, ℕ, Bool, true, false, cond, eqb, ltb, Some, None, Option, refl}
 use Rattle.std.proofs.lemmas.Bool.{true≢false}
 use Rattle.rules.specs.Copies.{Copy, Egress}
 use Rattle.rules.specs.Switch.{if_numbered, not_out}

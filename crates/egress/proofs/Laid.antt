@@ -1,12 +1,12 @@
 -- The copies of a frame laid at one port after the other. Assumes nothing.
-use Rattle.std.proofs.Common.{◌≡◌, ℕ, ◌+◌, ◌/◌, ◌%◌, ◌^◌, ◌<◌, ◌≤◌, Bool, true, false, cond, eqb, sym, refl, ap, ◌∙◌, ⊎_elim, arith, pow_mono}
+use Rattle.std.proofs.Common.{◌≡◌, ℕ, ◌+◌, ◌/◌, ◌%◌, ◌^◌, ◌<◌, ◌≤◌, true, false, cond, eqb, sym, refl, ap, ◌∙◌, ⊎_elim, arith, pow_mono}
 use native.Mathlib.Nat.{div-eq_of_lt}
 use Rattle.std.proofs.lemmas.Bool.{cases_Bool, cases_eq, cond_both, eqb-false, eqb-true}
 use Rattle.buffers.proofs.Soundness.{put_other, put_same}
 use Rattle.buffers.specs.Holdings.{changed, copies_in, egress, filled, frame_at, free, next_number}
 use Rattle.buffers.specs.declared.buffers.Buffers.{Buffers}
 use Rattle.frame.specs.Numbers.{in_set}
-use Rattle.rules.specs.Copies.{Egress, put}
+use Rattle.rules.specs.Copies.{put}
 use Rattle.egress.proofs.Each.{each_none, each_on}
 use Rattle.egress.specs.Ports.{each_port, laid_in}
 

@@ -1,12 +1,12 @@
 -- No queue of the buffers is longer than 32. Assumes nothing.
-use Rattle.std.proofs.Common.{◌≡◌, ℕ, zero, suc, ◌≤◌, ltb, List, [], ◌∷◌, map, length, get_or, refl, ap, arith}
+use Rattle.std.proofs.Common.{ℕ, zero, suc, ◌≤◌, ltb, List, [], ◌∷◌, map, length, get_or, arith}
 use lib.ListN.{length-map}
 use Rattle.std.proofs.lemmas.Bool.{cond_both}
 use Rattle.buffers.proofs.Turns.{length_items}
 use Rattle.buffers.specs.Boards.{lines}
 use Rattle.buffers.specs.Entries.{copy_of, shown}
 use Rattle.buffers.specs.Holdings.{egress}
-use Rattle.buffers.specs.Lines.{Line, empty_line, line}
+use Rattle.buffers.specs.Lines.{empty_line, line}
 use Rattle.buffers.specs.Notes.{notes}
 use Rattle.buffers.specs.Queues.{items}
 use Rattle.buffers.specs.declared.buffers.Buffers.{Buffers}

@@ -4,7 +4,7 @@ use Rattle.std.proofs.lemmas.Bool.{cases_eq, cond-true, eq-eqb, false≢true, tr
 use Rattle.buffers.proofs.Soundness.{put_other, put_same}
 use Rattle.buffers.specs.Holdings.{changed, first_gone}
 use Rattle.buffers.specs.Queues.{first_of, rest_of}
-use Rattle.rules.specs.Copies.{Copy, Egress, put, with_queue}
+use Rattle.rules.specs.Copies.{Egress, put, with_queue}
 
 pub put_here : {A : Type 0} (f : ℕ → A) (p : ℕ) (x : A) → put f p x p ≡ x
 put_here f p x = cond-true (eqb p p) x (f p) (eq-eqb p p refl)

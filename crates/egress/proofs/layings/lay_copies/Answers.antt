@@ -1,5 +1,5 @@
 use Rattle.std.proofs.Common.{◌≡◌, sym, ap, ◌∙◌, arith}
-use Rattle.buffers.specs.Holdings.{copies_in, egress, frame_at}
+use Rattle.buffers.specs.Holdings.{egress, frame_at}
 use Rattle.frame.specs.Numbers.{port_number}
 use Rattle.frame.specs.Refusals.{told}
 use Rattle.rules.proofs.Checks.{named_is}

@@ -1,4 +1,4 @@
-use Rattle.std.proofs.Common.{◌≡◌, ◌≤◌, length, sym, refl, ap, ◌∙◌, arith}
+use Rattle.std.proofs.Common.{sym, refl, ◌∙◌, arith}
 use Rattle.buffers.specs.Holdings.{egress}
 use Rattle.egress.proofs.Contents.{freed_on, none_freed}
 use Rattle.egress.proofs.Lengths.{queue_few}

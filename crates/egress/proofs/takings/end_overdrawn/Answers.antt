@@ -1,6 +1,5 @@
-use Rattle.std.proofs.Common.{◌≡◌, ℕ, Bool, true, false, length, drop, is_some, sym, refl, ap, ◌∙◌, arith}
+use Rattle.std.proofs.Common.{◌≡◌, ℕ, true, false, length, drop, sym, refl, ap, ◌∙◌, arith}
 use Rattle.buffers.specs.Holdings.{changed, egress, first_gone}
-use Rattle.buffers.specs.Queues.{first_of}
 use Rattle.rules.specs.Copies.{Egress, affordable, put, too_dear, with_queue}
 use Rattle.egress.proofs.Contents.{freed_on, none_freed}
 use Rattle.egress.proofs.Lengths.{queue_few}

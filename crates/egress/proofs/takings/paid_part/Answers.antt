@@ -6,7 +6,7 @@ use Rattle.buffers.specs.Queues.{first_of}
 use Rattle.buffers.specs.Sent.{copy_sent, sent}
 use Rattle.rules.specs.Copies.{Copy, Egress, affordable, best_effort_part_lem, paid_part_lem, put, take_paid_lem, with_queue}
 use Rattle.egress.proofs.Cells.{agree_moved}
-use Rattle.egress.proofs.Contents.{freed_on, freed_same, none_freed, same_contents}
+use Rattle.egress.proofs.Contents.{freed_same, none_freed, same_contents}
 use Rattle.egress.proofs.Ports.{changed_twice, put_here}
 use Rattle.egress.proofs.Taken.{all_dear, both_paid, cheap_now, left_there, none_paid, paid_first}
 use Rattle.egress.specs.Takings.{is_dear, shows, unburdened}
@@ -39,7 +39,7 @@ take_paid-requires g c =
     }
 
 pub best_effort_part-requires-in_default : goal.best_effort_part-requires-in_default
-best_effort_part-requires-in_default g c κs d =
+best_effort_part-requires-in_default g c d =
     let p : ℕ = c.args.port.number in
     let before : ℕ → Egress = egress d c.args.buffers.now in
     let paid = c.in_default.ensures in
