@@ -1,5 +1,5 @@
 -- How far the checks of Arrive are passed. Assumes nothing.
-use Rattle.std.proofs.Common.{◌≡◌, ℕ, ◌^◌, ◌<◌, ◌≤◌, Bool, true, false, cond, not, leb, List, [], ◌∷◌, ◌++◌, length, get_or, sym, refl, ap, ◌∙◌, arith}
+use Rattle.std.proofs.Common.{◌≡◌, ℕ, ◌^◌, ◌<◌, ◌≤◌, true, false, not, leb, List, [], ◌∷◌, ◌++◌, length, get_or, ap, ◌∙◌, arith}
 use Rattle.std.proofs.lemmas.Bool.{cond-false, leb-false, leb-true, lt-leb, ltb-false, not-false, true≢false}
 use Rattle.cells.specs.Rules.{Fair, admitted}
 use Rattle.forwarding.specs.Ways.{Proper, Way, tap, to, unknown}
@@ -7,7 +7,7 @@ use Rattle.frame.specs.Classes.{class_number}
 use Rattle.frame.specs.declared.classes.Class.{Class}
 use Rattle.frame.specs.declared.classes.Class.TheVariants.{BestEffort, Reserved, Clock, TimeSensitive}
 use Rattle.frame.specs.Frames.{class, destination, fits}
-use Rattle.frame.specs.Refusals.{Told, accepted, refused}
+use Rattle.frame.specs.Refusals.{accepted}
 use Rattle.rules.specs.Switch.{Behind, Check, State, arrive_checks, free, is_tap, is_unknown, judged, no_such_port, numbers, set_of, way_of}
 use Rattle.rules.proofs.Checks.{first_passed, passed}
 use Rattle.switch.specs.Headings.{heading_checks, heading_of, ports_by, way_checks}

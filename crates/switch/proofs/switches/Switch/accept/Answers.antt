@@ -1,10 +1,10 @@
-use Rattle.std.proofs.Common.{◌≡◌, ℕ, ◌+◌, ◌<◌, ◌≤◌, true, false, leb, List, length, set, Result, sym, refl, ap, ◌∙◌, subst, arith}
+use Rattle.std.proofs.Common.{◌≡◌, ℕ, ◌<◌, false, leb, List, length, Result, sym, refl, ap, ◌∙◌, subst, arith}
 use Rattle.std.proofs.lemmas.Bool.{and_parts, cond-false, leb-true}
-use Rattle.buffers.specs.Holdings.{egress, frame_at, free}
+use Rattle.buffers.specs.Holdings.{egress, free}
 use Rattle.cells.specs.Marks.{free_within}
-use Rattle.cells.specs.Stores.{Granted, cell_number, free_at}
+use Rattle.cells.specs.Stores.{Granted, cell_number}
 use Rattle.frame.specs.Classes.{class_number}
-use Rattle.frame.specs.Refusals.{accepted, told}
+use Rattle.frame.specs.Refusals.{told}
 use Rattle.frame.specs.declared.numbers.CellId.{CellId}
 use Rattle.frame.specs.declared.refusals.Refusal.{Refusal}
 use Rattle.rules.specs.Copies.{Copy, put, queue_for}

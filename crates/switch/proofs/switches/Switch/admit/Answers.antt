@@ -1,13 +1,12 @@
-use Rattle.std.proofs.Common.{◌≡◌, ℕ, Bool, true, false, not, List, [], ◌∷◌, sym, refl, ap, ◌∙◌, arith}
+use Rattle.std.proofs.Common.{◌≡◌, ℕ, true, false, not, List, sym, ap, ◌∙◌, arith}
 use Rattle.std.proofs.lemmas.Bool.{cond-false, cond-true, not_from_false, not_from_true}
 use Rattle.buffers.proofs.Held.{free_is}
 use Rattle.cells.specs.Rules.{admitted}
-use Rattle.cells.specs.Stores.{free_count}
 use Rattle.frame.specs.Classes.{class_number}
 use Rattle.frame.specs.Frames.{class}
 use Rattle.frame.specs.Refusals.{accepted, refused}
 use Rattle.rules.specs.Switch.{Behind, State, free}
-use Rattle.switch.proofs.Admitted.{Until, cells_check, until}
+use Rattle.switch.proofs.Admitted.{Until, until}
 use Rattle.switch.specs.Switches.{behind, state}
 use Rattle.switch.proofs.switches.Switch.admit.Goals as goal
 

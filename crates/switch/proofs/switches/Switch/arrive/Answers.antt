@@ -1,12 +1,11 @@
 use Rattle.std.proofs.Common.{◌≡◌, ℕ, ◌<◌, List, [], sym, refl, ap, ◌∙◌, subst, arith}
 use Rattle.std.proofs.lemmas.Result.{err_from_is_err_and}
 use Rattle.buffers.proofs.Held.{free_is}
-use Rattle.cells.specs.Stores.{free_count}
 use Rattle.frame.specs.Classes.{class_number}
 use Rattle.frame.specs.Frames.{class, destination}
 use Rattle.frame.specs.Refusals.{accepted, refused, says}
 use Rattle.rules.specs.Cells.{LetIn}
-use Rattle.rules.specs.Switch.{Arrived, Behind, State, arrive_answer, arrive_checks, free, judged, set_of, way_of}
+use Rattle.rules.specs.Switch.{Arrived, Behind, State, arrive_answer, arrive_checks, judged, set_of, way_of}
 use Rattle.switch.proofs.Admitted.{Through, destination_low, floor_some, ports_there, through}
 use Rattle.rules.proofs.Checks.{leaves_kept, leaves_state, passed, stopped}
 use Rattle.egress.proofs.Contents.{none_freed}

@@ -1,10 +1,10 @@
-use Rattle.std.proofs.Common.{◌≡◌, ℕ, ◌+◌, ◌≤◌, [], length, is_some, None, sym, refl, ap, ◌∙◌, arith, length-append}
+use Rattle.std.proofs.Common.{◌≡◌, ℕ, ◌+◌, [], length, is_some, None, sym, refl, ap, ◌∙◌, arith, length-append}
 use mir.Val.{bool_byte}
 use Rattle.std.specs.Option.{option_to_list}
 use Rattle.buffers.specs.Holdings.{changed, egress}
 use Rattle.frame.specs.Refusals.{accepted}
 use Rattle.rules.specs.Copies.{Egress, copies_at, put, queued_at, with_out}
-use Rattle.rules.specs.Switch.{State, clear_answer, with_ports}
+use Rattle.rules.specs.Switch.{State, clear_answer}
 use Rattle.rules.proofs.Checks.{leaves_state, named_is, port_passes}
 use Rattle.egress.proofs.Contents.{freed_on}
 use Rattle.egress.proofs.Emptied.{bit_few, cleared, out_counts, queued_few, still_out}

@@ -7,7 +7,7 @@ use Rattle.egress.specs.Sendings.{out_at}
 use Rattle.switch.proofs.switches.Switch.look.Goals as goal
 
 pub look-requires : goal.look-requires
-look-requires g c κs d =
+look-requires g c d =
     let ports = egress d c.args.self.now.buffers in
     let p = c.port.result in
     let n = c.number.result.0 in

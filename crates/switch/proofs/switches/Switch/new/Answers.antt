@@ -1,9 +1,9 @@
-use Rattle.std.proofs.Common.{◌≡◌, true, replicate, sym, refl, ap, ◌∙◌}
+use Rattle.std.proofs.Common.{◌≡◌, true, sym, refl, ap, ◌∙◌}
 use Rattle.std.proofs.lemmas.Bool.{cond-false, lt-leb}
 use Rattle.buffers.specs.Holdings.{egress, free}
-use Rattle.cells.specs.Stores.{all_free, free_at}
+use Rattle.cells.specs.Stores.{free_at}
 use Rattle.frame.specs.Refusals.{accepted}
-use Rattle.rules.specs.Switch.{empty_port, new_answer, new_state, numbers}
+use Rattle.rules.specs.Switch.{empty_port, numbers}
 use Rattle.rules.proofs.Checks.{below_is}
 use Rattle.egress.proofs.Cells.{all_free_at}
 use Rattle.switch.proofs.switches.Switch.new.Goals as goal

@@ -1,9 +1,9 @@
-use Rattle.std.proofs.Common.{◌≡◌, ℕ, Bool, None, sym, refl, ap, ◌∙◌}
+use Rattle.std.proofs.Common.{◌≡◌, ℕ, None, sym, refl, ap, ◌∙◌}
 use Rattle.std.proofs.lemmas.Result.{err_from_is_err_and}
-use Rattle.buffers.specs.Holdings.{changed, egress, free}
-use Rattle.frame.specs.Refusals.{Told, accepted, refused, says}
-use Rattle.rules.specs.Copies.{Egress, put, with_out}
-use Rattle.rules.specs.Switch.{Returned, State, not_out, return_answer, with_ports}
+use Rattle.buffers.specs.Holdings.{changed, egress}
+use Rattle.frame.specs.Refusals.{accepted, refused, says}
+use Rattle.rules.specs.Copies.{put, with_out}
+use Rattle.rules.specs.Switch.{Returned, State, not_out, return_answer}
 use Rattle.rules.proofs.Checks.{leaves_kept, leaves_state, one_accepted, one_refused}
 use Rattle.egress.proofs.Contents.{none_freed}
 use Rattle.egress.specs.Sendings.{out_at, sending_at}

@@ -1,14 +1,13 @@
-use Rattle.std.proofs.Common.{◌≡◌, ℕ, ◌-◌, [], ◌∷◌, None, Option, sym, refl, ap, ◌∙◌}
+use Rattle.std.proofs.Common.{◌≡◌, ℕ, [], ◌∷◌, None, sym, refl, ap, ◌∙◌}
 use Rattle.std.specs.Option.{option_map}
 use Rattle.buffers.proofs.Changes.{mapped_none}
-use Rattle.buffers.specs.Holdings.{egress}
 use Rattle.buffers.specs.Sent.{copy_sent}
 use Rattle.frame.specs.Refusals.{accepted}
-use Rattle.rules.specs.Copies.{Copy, Taking, put, take_at}
+use Rattle.rules.specs.Copies.{Taking, put, take_at}
 use Rattle.rules.specs.Switch.{Behind, State, Took, busy, judged, port_taking, take_answer, with_ports}
 use Rattle.rules.proofs.Checks.{leaves_state, named_is, port_passes}
 use Rattle.egress.proofs.Taken.{mapped_twice}
-use Rattle.switch.specs.Answers.{ticket_for, took}
+use Rattle.switch.specs.Answers.{ticket_for}
 use Rattle.switch.specs.Switches.{behind, state}
 use Rattle.egress.specs.Takings.{shows}
 use Rattle.switch.proofs.switches.Switch.take.Goals as goal
