@@ -1,5 +1,5 @@
 -- A run that is under way: the turns made so far, and one more. Assumes nothing.
-use Rattle.std.proofs.Common.{◌≡◌, ℕ, ◌+◌, ◌<◌, ◌≤◌, Bool, true, leb, List, [], ◌∷◌, ◌++◌, map, length, get_or, take, drop, set, Some, vec_items, sym, refl, ap, ◌∙◌, subst, arith, length-drop}
+use Rattle.std.proofs.Common.{◌≡◌, ℕ, ◌+◌, ◌<◌, Bool, true, leb, List, [], ◌∷◌, ◌++◌, map, length, get_or, take, drop, set, Some, vec_items, sym, refl, ap, ◌∙◌, subst, arith, length-drop}
 use Rattle.std.proofs.lemmas.List.{drop_more, drop-set-lt, get_or-drop, map_push, with_items_is, take_more, take_more_set}
 use Rattle.std.proofs.lemmas.Bool.{leb-false}
 use Rattle.std.specs.Vec.{with_items}
@@ -10,7 +10,7 @@ use Rattle.rules.proofs.Cells.{story_new}
 use Rattle.rules.proofs.Walks.{run_push}
 use Rattle.rules.specs.Cells.{ContentsAfter}
 use Rattle.rules.specs.Laws.{Lawful, refuses}
-use Rattle.rules.specs.Runs.{Answer, Call, Moment, answer_of, arrived_in, last, moment, run, state_after}
+use Rattle.rules.specs.Runs.{Call, Moment, answer_of, arrived_in, moment, run, state_after}
 use Rattle.rules.specs.Stories.{Story, Tied}
 use Rattle.rules.specs.Switch.{Behind, Check, new_answer, new_checks, new_state, numbers}
 use Rattle.rules.specs.Twins.{Addressed, AllAddressed}

@@ -1,5 +1,5 @@
 -- The turns of a run, in the definition's terms. Assumes nothing.
-use Rattle.std.specs.Prelude.{◌≡◌, ℕ, List, [], ◌∷◌, Some, vec_items, Option}
+use Rattle.std.specs.Prelude.{◌≡◌, List, [], ◌∷◌, Some, vec_items, Option}
 use Rattle.std.specs.Option.{option_map}
 use Rattle.rules.specs.Runs.{Answer, Call, Moment}
 use Rattle.switch.specs.Calls.{answer_with, buffer_after, call_with}

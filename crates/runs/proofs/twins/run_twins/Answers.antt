@@ -1,4 +1,3 @@
-use Rattle.std.proofs.Common.{◌≡◌}
 use Rattle.runs.proofs.Alike.{twins_by}
 use Rattle.runs.proofs.Underway.{slot_below}
 use Rattle.runs.proofs.twins.run_twins.Goals as goal
