@@ -1,14 +1,14 @@
 -- The rows of an opening, as far as a table looks at them. Assumes nothing.
-use Rattle.std.proofs.Common.{◌≡◌, ℕ, zero, suc, ◌+◌, ◌<◌, ◌≤◌, min, Bool, true, false, cond, ◌&&◌, ltb, ◌⊎◌, List, [], ◌∷◌, ◌++◌, map, length, get_or, take, set, is_some, Some, None, Option, sym, refl, ap, ◌∙◌, inl, inr, ⊎_elim, arith, length-set}
+use Rattle.std.proofs.Common.{◌≡◌, ℕ, zero, suc, ◌+◌, ◌<◌, ◌≤◌, min, true, ltb, ◌⊎◌, List, [], ◌∷◌, ◌++◌, length, get_or, take, set, is_some, Some, None, Option, sym, refl, ap, ◌∙◌, inl, inr, ⊎_elim, arith, length-set}
 use Rattle.std.proofs.lemmas.List.{map_push, take_all, take-map, take_more, take_more_set}
 use Rattle.std.proofs.lemmas.Option.{slice_get-get_or}
-use Rattle.std.proofs.lemmas.Bool.{and_parts, cases_Bool, cases_lt, cond_both, cond-false, cond-true, ltb-true}
+use Rattle.std.proofs.lemmas.Bool.{and_parts, cases_Bool, cases_lt, cond-false, cond-true, ltb-true}
 use Rattle.std.specs.List.{slice_get}
 use Rattle.std.specs.Option.{option_map}
 use Rattle.forwarding.specs.AddressTables.{table_loaded}
 use Rattle.forwarding.specs.Rows.{first_wrong_lem, fits_at_lem, table_way}
 use Rattle.forwarding.specs.declared.rows.Row.{Row}
-use Rattle.frame.specs.Refusals.{Told, unless_wrong}
+use Rattle.frame.specs.Refusals.{unless_wrong}
 use Rattle.records.specs.Format.{row_of}
 use Rattle.planning.specs.Records.{rows_in}
 

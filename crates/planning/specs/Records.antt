@@ -1,5 +1,5 @@
 -- What the records of a planner input stand for: a switch, and calls on it. Assumes nothing.
-use Rattle.std.specs.Prelude.{ℕ, zero, suc, ◌+◌, Bool, true, false, cond, ◌||◌, List, [], ◌∷◌, ◌++◌, map, length, replicate, is_some, Some, None, Option, nat_le, nat_lt}
+use Rattle.std.specs.Prelude.{ℕ, zero, suc, ◌+◌, Bool, cond, ◌||◌, List, [], ◌∷◌, ◌++◌, map, length, replicate, is_some, Some, None, Option, nat_le, nat_lt}
 use Rattle.cells.specs.Rules.{floors_under}
 use Rattle.forwarding.specs.Rows.{first_wrong_lem, table_way}
 use Rattle.forwarding.specs.Ways.{Way, tapped}

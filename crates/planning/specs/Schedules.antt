@@ -1,12 +1,12 @@
 -- The schedule that the planner prints for an input. Assumes nothing.
-use Rattle.std.specs.Prelude.{ℕ, Bool, true, false, cond, List, [], ◌∷◌, ◌++◌, Some, None, Option}
+use Rattle.std.specs.Prelude.{ℕ, cond, List, [], ◌∷◌, ◌++◌, Some, None, Option}
 use Rattle.frame.specs.Refusals.{Told, accepted, refused}
 use Rattle.lines.specs.Lines as lines
 use Rattle.lines.specs.Lines.{Outcome, heading}
-use Rattle.records.specs.Format.{Asked, Opened, new, arrive, tick, send, clear}
+use Rattle.records.specs.Format.{Opened, new, arrive, tick, send, clear}
 use Rattle.rules.specs.Runs as run
 use Rattle.rules.specs.Runs.{Answer, Call, Moment}
-use Rattle.rules.specs.Switch.{Ticket, Took}
+use Rattle.rules.specs.Switch.{Ticket}
 use Rattle.planning.specs.Records.{Piece, all_calls, asks, behind_of, blank, broken, pieces, state_of, wrong_opening}
 
 -- what an answer came to: what it says, or the number of its refusal

@@ -1,4 +1,4 @@
-use Rattle.std.proofs.Common.{◌≡◌, ℕ, ◌-◌, ◌<◌, min, length, take, sym, refl, ap, ◌∙◌, arith}
+use Rattle.std.proofs.Common.{ℕ, take, sym, refl, ap, ◌∙◌, arith}
 use Rattle.std.specs.Option.{option_map}
 use Rattle.forwarding.specs.AddressTables.{table_loaded}
 use Rattle.records.specs.Format.{row_of, rows_of}
