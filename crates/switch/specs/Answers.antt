@@ -1,5 +1,5 @@
 -- What each answer of the switch stands for, and its ticket. Assumes nothing.
-use Rattle.std.specs.Prelude.{ℕ, List, [], ◌∷◌, Some, None}
+use Rattle.std.specs.Prelude.{Bool, ℕ, List, [], ◌∷◌, Some, None}
 use Rattle.std.specs.Option.{option_map}
 use Rattle.frame.specs.Classes.{class_number}
 use Rattle.frame.specs.Numbers.{port_number, set_bits, slot_number}
@@ -14,6 +14,10 @@ use Rattle.switch.specs.declared.tickets.Ticket.{Ticket}
 
 abbrev pub ticket_of : Ticket → definition.Ticket
 ticket_of t = record { port = t.port; number = t.number.0; length = t.length }
+
+-- it was returned, and only such a ticket may be let go
+abbrev pub is_spent : Ticket → Bool
+is_spent t = t.spent
 
 abbrev pub arrived : Arrived → definition.Arrived
 arrived a = record { number = a.number.0; class = class_number a.class; set = set_bits a.ports }

@@ -1,23 +1,26 @@
 // The ticket of a copy that was taken. It has to be returned: letting one go is refused.
-ghost use Rattle.std.specs.Prelude.{◌≡◌};
-ghost use Rattle.switch.specs.Answers.{ticket_of};
+ghost use Rattle.std.specs.Prelude.{◌≡◌, true};
+ghost use Rattle.switch.specs.Answers.{is_spent, ticket_of};
 
 use frame::numbers::FrameNumber;
 
+// Only a Return spends a ticket.
 pub struct Ticket {
     port: u8,
     number: FrameNumber,
     length: usize,
+    spent: bool,
 }
 
 impl Drop for Ticket {
     fn drop(self)
-        requires { ⊥ }
+        requires { is_spent self ≡ true }
     {
         let Ticket {
             port: _,
             number: _,
             length: _,
+            spent: _,
         } = self;
     }
 }
@@ -31,6 +34,7 @@ impl Ticket {
             port,
             number,
             length,
+            spent: false,
         }
     }
 
@@ -54,14 +58,10 @@ impl Ticket {
     }
 
     // Only a Return takes a ticket apart.
-    pub(crate) fn spend(self) -> (u8, FrameNumber)
+    pub(crate) fn spend(mut self) -> (u8, FrameNumber)
         ensures { (result.0 ≡ (ticket_of self).port) × (result.1.0 ≡ (ticket_of self).number) }
     {
-        let Ticket {
-            port,
-            number,
-            length: _,
-        } = self;
-        (port, number)
+        self.spent = true;
+        (self.port, self.number)
     }
 }
