@@ -4,9 +4,9 @@
     python3 tools/respell.py [TOP]
 
 It goes by text, over the files of crates/. A name is one that an .antt file of specs/ or proofs/ declares and that holds
-a dash or a prime. Names that Rattle makes from the source (goals and steps of a proof) keep their dashes. Comments are
-and strings are left alone. It says which names fall together with others and then changes nothing. A definition that
-would get the name of a function of the source, which is a module's name too, ends in _lem.
+a dash or a prime. Names that Rattle makes from the source (goals and steps of a proof) keep their dashes. Comments and
+strings are left alone. It says which names fall together with others and then changes nothing. A definition that would
+get the name of a function of the source, which is a module's name too, ends in _lem.
 """
 import os
 import re
@@ -22,7 +22,7 @@ TYPES = re.compile(rf"^[ \t]*(?:pub )?(?:record|data)[ \t]+(?P<name>{WORD})", re
 
 def files():
     for folder, _, names in os.walk("crates"):
-        if "/out" in folder:
+        if re.match(r"crates/\w+/out(/|$)", folder):
             continue
         for name in sorted(names):
             if name.endswith((".antt", ".rt", ".edit")):
