@@ -5,8 +5,7 @@
 
 It goes by text, over the files of crates/. A name is one that an .antt file of specs/ or proofs/ declares and that holds
 a dash or a prime. Names that Rattle makes from the source (goals and steps of a proof) keep their dashes. Comments and
-strings are left alone. It says which names fall together with others and then changes nothing. A definition that would
-get the name of a function of the source, which is a module's name too, ends in _lem.
+strings are left alone. It says which names fall together with others and then changes nothing.
 """
 import os
 import re
@@ -55,13 +54,7 @@ for f, text in texts.items():
         name = found.group("name")
         (old if "-" in name or "′" in name else others).add(name)
 
-functions = {
-    name
-    for f, text in texts.items()
-    if f.endswith(".rt")
-    for name in re.findall(r"\bfn (\w+)", code(text, "//"))
-}
-news = {name: turned(name) + "_lem" * (turned(name) in functions) for name in old}
+news = {name: turned(name) for name in old}
 together = sorted(
     f"{name} -> {new}" for name, new in news.items() if new in others or list(news.values()).count(new) > 1
 )

@@ -5,7 +5,7 @@ use Rattle.std.specs.Option.{option_map}
 use Rattle.buffers.specs.Holdings.{changed, first_out}
 use Rattle.buffers.specs.Queues.{first_of, rest_of}
 use Rattle.buffers.specs.Sent.{copy_sent}
-use Rattle.rules.specs.Copies.{Copy, Egress, affordable, cost, put, take_best_effort, take_paid_lem, take_sending, too_dear, with_out, with_queue, with_tokens}
+use Rattle.rules.specs.Copies.{Copy, Egress, affordable, cost, put, take_best_effort, take_paid, take_sending, too_dear, with_out, with_queue, with_tokens}
 use Rattle.egress.proofs.Ports.{changed_twice, put_here, put_own, put_put, rest_drop}
 use Rattle.egress.specs.Takings.{is_dear, pays, shows, unburdened}
 
@@ -96,7 +96,7 @@ best_effort_first e n (c ∷ cs) is none = (refl, refl)
 
 -- what is paid for
 module _ (open3 : Bool) (e : Egress) (n : ℕ) where
-  pub paid_first : (cs : List Copy) (x : ℕ × ℕ) → Some x ≡ option_map copy_sent (first_of cs) → ((Some x, n) ≡ shows (take_paid_lem open3 e n cs)) × (pays (with_queue e 2 cs) cs ≡ (take_paid_lem open3 e n cs).left)
+  pub paid_first : (cs : List Copy) (x : ℕ × ℕ) → Some x ≡ option_map copy_sent (first_of cs) → ((Some x, n) ≡ shows (take_paid open3 e n cs)) × (pays (with_queue e 2 cs) cs ≡ (take_paid open3 e n cs).left)
   paid_first [] x is = absurd (let z : ◌≡◌ {A = ℕ} 0 1 = cc in omega arith)
   paid_first (c ∷ cs) x is = (
     λ i. (is i, n),

@@ -6,7 +6,7 @@ ghost use Rattle.buffers.specs.Queues.{first_of};
 ghost use Rattle.buffers.specs.Sent.{copy_sent, sent};
 ghost use Rattle.frame.specs.Numbers.{port_number, queue_number, slot_number};
 ghost use Rattle.rules.specs.Cells.{OnlyFreed};
-ghost use Rattle.rules.specs.Copies.{best_effort_part_lem, paid_part_lem, take_at, too_dear};
+ghost use Rattle.rules.specs.Copies.{best_effort_part, paid_part, take_at, too_dear};
 ghost use Rattle.egress.specs.Agreements.{Agree};
 ghost use Rattle.egress.specs.Takings.{is_dear, pays, seen, shows, unburdened};
 
@@ -108,8 +108,8 @@ fn take_paid(buffers: &mut Buffers, port: Port) -> Option<Sent>
 // The first copy of queue 3, if that is open.
 fn best_effort_part(buffers: &mut Buffers, port: Port, gates: Gates, overdrawn: u32) -> Taking
     requires { (d : ℕ) → (egress d buffers.old (port_number port)).out ≡ None }
-    ensures answer { (d : ℕ) → seen result ≡ shows (best_effort_part_lem gates.best_effort (egress d buffers.old (port_number port)) overdrawn) }
-    ensures state { (d : ℕ) → egress d buffers.new ≡ changed (egress d buffers.old) (port_number port) (λ e. (best_effort_part_lem gates.best_effort e overdrawn).left) }
+    ensures answer { (d : ℕ) → seen result ≡ shows (best_effort_part gates.best_effort (egress d buffers.old (port_number port)) overdrawn) }
+    ensures state { (d : ℕ) → egress d buffers.new ≡ changed (egress d buffers.old) (port_number port) (λ e. (best_effort_part gates.best_effort e overdrawn).left) }
     ensures cells { free buffers.new ≡ free buffers.old }
     ensures number { next_number buffers.new ≡ next_number buffers.old }
     ensures frames { frame_at buffers.new ≡ frame_at buffers.old }
@@ -128,8 +128,8 @@ fn best_effort_part(buffers: &mut Buffers, port: Port, gates: Gates, overdrawn: 
 fn paid_part<S: Store>(store: &mut S, buffers: &mut Buffers, port: Port, gates: Gates) -> Taking
     requires sound { Agree (S.marks store.old) (free buffers.old) }
     requires out { (d : ℕ) → (egress d buffers.old (port_number port)).out ≡ None }
-    ensures answer { (d : ℕ) → seen result ≡ shows (paid_part_lem gates.paid gates.best_effort (egress d buffers.old (port_number port))) }
-    ensures state { (d : ℕ) → egress d buffers.new ≡ changed (egress d buffers.old) (port_number port) (λ e. (paid_part_lem gates.paid gates.best_effort e).left) }
+    ensures answer { (d : ℕ) → seen result ≡ shows (paid_part gates.paid gates.best_effort (egress d buffers.old (port_number port))) }
+    ensures state { (d : ℕ) → egress d buffers.new ≡ changed (egress d buffers.old) (port_number port) (λ e. (paid_part gates.paid gates.best_effort e).left) }
     ensures number { next_number buffers.new ≡ next_number buffers.old }
     ensures sound { Agree (S.marks store.new) (free buffers.new) }
     ensures contents { OnlyFreed (contents buffers.old) (contents buffers.new) }

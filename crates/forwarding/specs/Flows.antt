@@ -4,8 +4,8 @@ use Rattle.frame.specs.Refusals.{Told, accepted, refused}
 use Rattle.forwarding.specs.Ways.{Way, formed}
 
 -- the flow of a destination: bits 31 to 44 of its number
-abbrev pub flow_of_lem : ℕ → ℕ
-flow_of_lem d = d / 2 ^ 31 % 16384
+abbrev pub flow_of : ℕ → ℕ
+flow_of d = d / 2 ^ 31 % 16384
 
 -- the row of a flow by its set; 0 is no row
 abbrev pub flow_row : ℕ → Option ℕ
@@ -13,7 +13,7 @@ flow_row s = cond (s == 0) None (Some s)
 
 -- the way by the set of each flow
 abbrev pub flow_way : (ℕ → ℕ) → ℕ → ℕ → Way
-flow_way sets d p = formed (flow_row (sets (flow_of_lem d))) p
+flow_way sets d p = formed (flow_row (sets (flow_of d))) p
 
 -- at first no flow has a row
 abbrev pub no_flows : ℕ → ℕ

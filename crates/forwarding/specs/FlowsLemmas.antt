@@ -4,10 +4,10 @@ use Rattle.std.proofs.Common.{sym, ap, subst, ◌∙◌, ⊎_elim, arith}
 use Rattle.std.proofs.lemmas.List.{get_or_past, get_or-replicate, get_or-set_same, get_or-set_other, length-replicate}
 use Rattle.std.proofs.lemmas.Bool.{cases_eq, cases_lt, cond_both, cond-true, cond-false, eq-eqb, le-ltb, lt-ltb, ne_eqb}
 use Rattle.frame.specs.Refusals.{Told, accepted}
-use Rattle.forwarding.specs.Flows.{all_flows, flow_of_lem, flow_put, flow_row, no_flows, with_flow}
+use Rattle.forwarding.specs.Flows.{all_flows, flow_of, flow_put, flow_row, no_flows, with_flow}
 
 -- 2^31 is flow 1, and all ones is flow 16,383
-pub edges : (flow_of_lem (2 ^ 31) ≡ 1) × (flow_of_lem (2 ^ 48 - 1) ≡ 16383)
+pub edges : (flow_of (2 ^ 31) ≡ 1) × (flow_of (2 ^ 48 - 1) ≡ 16383)
 edges = (refl, refl)
 
 -- a list of one set has it for each flow

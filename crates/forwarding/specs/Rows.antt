@@ -10,13 +10,13 @@ first_row [] d = None
 first_row (row ∷ rows) d = cond (row.address.bits == d) (Some row.ports) (first_row rows d)
 
 -- a row at this place can be held: there are twelve places, and a set is a number up to 15
-abbrev pub fits_at_lem : ℕ → Row → Bool
-fits_at_lem place row = nat_lt place 12 && nat_lt row.ports 16
+abbrev pub fits_at : ℕ → Row → Bool
+fits_at place row = nat_lt place 12 && nat_lt row.ports 16
 
 -- the place of the first row that cannot be held, where the list begins at place i
-abbrev pub first_wrong_lem : ℕ → List Row → Option ℕ
-first_wrong_lem i [] = None
-first_wrong_lem i (row ∷ rows) = cond (fits_at_lem i row) (first_wrong_lem (i + 1) rows) (Some i)
+abbrev pub first_wrong : ℕ → List Row → Option ℕ
+first_wrong i [] = None
+first_wrong i (row ∷ rows) = cond (fits_at i row) (first_wrong (i + 1) rows) (Some i)
 
 -- the way by these rows: all ones is the address of every station; any other goes by its first row
 abbrev pub table_way : List Row → ℕ → ℕ → Way

@@ -1,6 +1,6 @@
 // A table of addresses, each with the ports behind which it is known.
 ghost use Rattle.std.specs.Prelude.{◌≡◌, ◌≤◌, false, take, is_some};
-ghost use Rattle.forwarding.specs.Rows.{first_wrong_lem};
+ghost use Rattle.forwarding.specs.Rows.{first_wrong};
 
 use crate::rows::Row;
 
@@ -18,5 +18,5 @@ pub struct AddressTable {
     rows: [Row; ROWS],
     used: usize,
     ghost room: { used ≤ 12 },
-    ghost right: { is_some (first_wrong_lem 0 (take used rows)) ≡ false },
+    ghost right: { is_some (first_wrong 0 (take used rows)) ≡ false },
 }

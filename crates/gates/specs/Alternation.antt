@@ -4,7 +4,7 @@ use Rattle.std.proofs.Common.{sym, ap, ◌∙◌, inl, inr, ⊎_elim, arith}
 use Rattle.std.proofs.Math.Nat.{dvd_of_mod-eq-zero, mod-mod_of_dvd}
 use Rattle.std.proofs.lemmas.Nat.{mod_below}
 use Rattle.std.proofs.lemmas.Bool.{and_cases, and_parts, cases_Bool, cases_eq, cond-true, cond-false, eqb-true, eqb-false, leb-true, ltb-false, or_parts, true≢false}
-use Rattle.gates.specs.GateLists.{entry_bit, entry_in, first_wrong_lem, ill_formed, list_fills, list_opens, right_count, wrong_at}
+use Rattle.gates.specs.GateLists.{entry_bit, entry_in, first_wrong, ill_formed, list_fills, list_opens, right_count, wrong_at}
 use Rattle.gates.specs.Places.{none_found}
 
 -- what is known of a list in which no place is wrong
@@ -13,7 +13,7 @@ pub record Good (es : List ℕ) : Type 0 where
   pub even : length es % 2 ≡ 0
   pub right : (k : ℕ) → k < length es → wrong_at es k ≡ false
 
-pub good : (es : List ℕ) → is_some (first_wrong_lem es) ≡ false → Good es
+pub good : (es : List ℕ) → is_some (first_wrong es) ≡ false → Good es
 good es e =
     let n = length es in
     let fits : right_count n ≡ true =

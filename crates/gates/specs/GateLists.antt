@@ -39,5 +39,5 @@ first_from test i zero = None
 first_from test i (suc n) = cond (test i) (Some i) (first_from test (i + 1) n)
 
 -- the place where a list is wrong first: a wrong number of entries comes before all, and is itself the place
-abbrev pub first_wrong_lem : List ℕ → Option ℕ
-first_wrong_lem es = cond (right_count (length es)) (first_from (wrong_at es) 0 (length es)) (Some (length es))
+abbrev pub first_wrong : List ℕ → Option ℕ
+first_wrong es = cond (right_count (length es)) (first_from (wrong_at es) 0 (length es)) (Some (length es))

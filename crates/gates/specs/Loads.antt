@@ -1,7 +1,7 @@
 -- What loading a gate list answers. Assumes nothing.
 use Rattle.std.specs.Prelude.{ℕ, List, take}
 use Rattle.frame.specs.Refusals.{Told, unless_wrong}
-use Rattle.gates.specs.GateLists.{first_wrong_lem}
+use Rattle.gates.specs.GateLists.{first_wrong}
 use Rattle.gates.specs.declared.gate_lists.GateList.{GateList}
 
 -- the entries of a list that was loaded
@@ -10,4 +10,4 @@ listed l = take l.count l.bytes
 
 -- a good list is loaded as it stands
 abbrev pub load_as : List ℕ → Told (List ℕ)
-load_as es = unless_wrong (first_wrong_lem es) es
+load_as es = unless_wrong (first_wrong es) es

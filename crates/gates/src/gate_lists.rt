@@ -1,6 +1,6 @@
 // The plan that goes by a list: one entry a slot, over and over.
 ghost use Rattle.std.specs.Prelude.{◌≡◌, ◌≤◌, false, take, is_some};
-ghost use Rattle.gates.specs.GateLists.{first_wrong_lem};
+ghost use Rattle.gates.specs.GateLists.{first_wrong};
 
 mod judging;
 pub mod methods;
@@ -16,5 +16,5 @@ pub struct GateList {
     bytes: [u8; MOST],
     count: usize,
     ghost within: { count ≤ 1024 },
-    ghost good: { is_some (first_wrong_lem (take count bytes)) ≡ false },
+    ghost good: { is_some (first_wrong (take count bytes)) ≡ false },
 }

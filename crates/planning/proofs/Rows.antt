@@ -6,14 +6,14 @@ use Rattle.std.proofs.lemmas.Bool.{and_parts, cases_Bool, cases_lt, cond-false, 
 use Rattle.std.specs.List.{slice_get}
 use Rattle.std.specs.Option.{option_map}
 use Rattle.forwarding.specs.AddressTables.{table_loaded}
-use Rattle.forwarding.specs.Rows.{first_wrong_lem, fits_at_lem, table_way}
+use Rattle.forwarding.specs.Rows.{first_wrong, fits_at, table_way}
 use Rattle.forwarding.specs.declared.rows.Row.{Row}
 use Rattle.frame.specs.Refusals.{unless_wrong}
 use Rattle.records.specs.Format.{row_of}
 use Rattle.planning.specs.Records.{rows_in}
 
 -- among more than twelve rows one cannot be held, and thirteen of them are enough to find it
-found_early : (k n : ℕ) (rows : List Row) → k ≤ 12 → 13 ≤ k + n → 13 ≤ k + length rows → (place : ℕ) × (first_wrong_lem k (take n rows) ≡ Some place) × (first_wrong_lem k rows ≡ Some place)
+found_early : (k n : ℕ) (rows : List Row) → k ≤ 12 → 13 ≤ k + n → 13 ≤ k + length rows → (place : ℕ) × (first_wrong k (take n rows) ≡ Some place) × (first_wrong k rows ≡ Some place)
 found_early k zero rows low enough more = absurd (omega arith)
 found_early k (suc n) [] low enough more = absurd (omega arith)
 found_early k (suc n) (row ∷ rows) low enough more =
@@ -21,9 +21,9 @@ found_early k (suc n) (row ∷ rows) low enough more =
     (λ fit.
     let here : k < 12 = ltb-true k 12 (and_parts (ltb k 12) _ fit).0 in
     let later = found_early (k + 1) n rows (omega arith) (omega arith) (omega arith) in
-    (later.0, cond-true (fits_at_lem k row) _ (Some k) fit ∙ later.1, cond-true (fits_at_lem k row) _ (Some k) fit ∙ later.2))
-    (λ unfit. (k, cond-false (fits_at_lem k row) _ (Some k) unfit, cond-false (fits_at_lem k row) _ (Some k) unfit))
-    (cases_Bool (fits_at_lem k row))
+    (later.0, cond-true (fits_at k row) _ (Some k) fit ∙ later.1, cond-true (fits_at k row) _ (Some k) fit ∙ later.2))
+    (λ unfit. (k, cond-false (fits_at k row) _ (Some k) unfit, cond-false (fits_at k row) _ (Some k) unfit))
+    (cases_Bool (fits_at k row))
 
 pub enough_rows : (rows : List Row) → table_loaded (take 13 rows) ≡ table_loaded rows
 enough_rows rows =

@@ -1,7 +1,7 @@
 -- What the records of a planner input stand for: a switch, and calls on it. Assumes nothing.
 use Rattle.std.specs.Prelude.{ℕ, zero, suc, ◌+◌, Bool, cond, ◌||◌, List, [], ◌∷◌, ◌++◌, map, length, replicate, is_some, Some, None, Option, nat_le, nat_lt}
 use Rattle.cells.specs.Rules.{floors_under}
-use Rattle.forwarding.specs.Rows.{first_wrong_lem, table_way}
+use Rattle.forwarding.specs.Rows.{first_wrong, table_way}
 use Rattle.forwarding.specs.Ways.{Way, tapped}
 use Rattle.forwarding.specs.declared.rows.Row.{Row}
 use Rattle.frame.specs.Refusals.{Told, accepted, refused}
@@ -46,7 +46,7 @@ state_of o = new_state o.slot o.number o.rate o.depth
 
 -- it is refused, by 10: a row that the table cannot hold, a threshold above 511, or a first slot or number above 2^48 - 1
 abbrev pub wrong_opening : Opened → Bool
-wrong_opening o = is_some (first_wrong_lem 0 (rows_in o.rows)) || (nat_lt 511 o.reserved || (nat_lt 511 o.best_effort || (nat_le numbers o.slot || nat_le numbers o.number)))
+wrong_opening o = is_some (first_wrong 0 (rows_in o.rows)) || (nat_lt 511 o.reserved || (nat_lt 511 o.best_effort || (nat_le numbers o.slot || nat_le numbers o.number)))
 
 -- the calls that a record stands for: a Send is a Take and, if that answers a ticket, a Look and a Return with it; the planner has one buffer, and these are its bytes
 abbrev pub with_ticket : Option Ticket → List ℕ → List Call

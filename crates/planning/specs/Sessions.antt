@@ -38,4 +38,4 @@ module _ {F : Type 0} where
     pub state : state_in after ≡ last b (state_in before) calls
     pub buffer : buffer_in after ≡ buffer_left b (buffer_in before) (run b (state_in before) calls)
     pub kinds : switch.kinds after.switch ≡ switch.kinds before.switch
-    pub goes_on : (slot number rate depth : ℕ) (calls-before : List Call) → Underway b slot number rate depth calls-before before → Underway b slot number rate depth (calls-before ++ calls) after
+    pub goes_on : (slot number rate depth : ℕ) (calls_before : List Call) → Underway b slot number rate depth calls_before before → Underway b slot number rate depth (calls_before ++ calls) after

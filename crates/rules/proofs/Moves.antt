@@ -3,7 +3,7 @@ use Rattle.std.proofs.Common.{◌≡◌, ℕ, zero, suc, ◌+◌, ◌<◌, Bool,
 use Rattle.std.specs.Option.{option_to_list}
 use Rattle.std.specs.List.{AllByRecursion as All}
 use Rattle.std.proofs.lemmas.Bool.{cases_Bool, eqb-true, eq-eqb, ltb-true, cond-false}
-use Rattle.rules.specs.Copies.{Copy, Egress, Taking, cost, put, with_queue, with_tokens, with_out, laid, too_dear, affordable, take_best_effort, best_effort_part_lem, take_paid_lem, paid_part_lem, take_sending, take_at, queued_at}
+use Rattle.rules.specs.Copies.{Copy, Egress, Taking, cost, put, with_queue, with_tokens, with_out, laid, too_dear, affordable, take_best_effort, best_effort_part, take_paid, paid_part, take_sending, take_at, queued_at}
 use Rattle.rules.specs.Runs.{total, sum4}
 use Rattle.rules.proofs.Totals.{total_append, all_parts}
 
@@ -162,7 +162,7 @@ module _ (k : ℕ) (e e1 : Egress) (over : List Copy) (ended : ℕ → List Copy
         from = λ P a b d. d;
       }
 
-  takes_last : (open3 : Bool) → Takes k e (best_effort_part_lem open3 e1 (length over))
+  takes_last : (open3 : Bool) → Takes k e (best_effort_part open3 e1 (length over))
   takes_last true = takes_best (e1.queue 3) refl
   takes_last false = takes_none
 
@@ -170,7 +170,7 @@ module _ (k : ℕ) (small : k < 2) (open3 : Bool) (e : Egress) (idle : e.out ≡
   front_of : (over cs : List Copy) → e.queue 2 ≡ over ++ cs → (P : Copy → Type 0) → All P (e.queue 2) → All P over
   front_of over cs h P a = (all_parts P over cs (rw h at a)).0
 
-  takes_paid : (over cs : List Copy) → e.queue 2 ≡ over ++ cs → All (λ c. c.class ≡ 1) over → Takes k e (take_paid_lem open3 e (length over) cs)
+  takes_paid : (over cs : List Copy) → e.queue 2 ≡ over ++ cs → All (λ c. c.class ≡ 1) over → Takes k e (take_paid open3 e (length over) cs)
   takes_paid over [] h r = takes_last k e (with_queue e 2 []) over (only 2 over) (drops e over [] h) (λ w. only_total w 2 over (omega arith)) r (front_of over [] h) idle open3
   takes_paid over (c ∷ cs) h r =
       record {
@@ -179,7 +179,7 @@ module _ (k : ℕ) (small : k < 2) (open3 : Bool) (e : Egress) (idle : e.out ≡
         taken = only 2 (c ∷ []);
         move =
             joins (drops e over (c ∷ cs) h)
-            (puts_out (with_queue e 2 (c ∷ cs)) (take_paid_lem open3 e (length over) (c ∷ cs)).left 2 c cs (omega arith) refl (λ j. twice j (eqb j 2)) idle refl);
+            (puts_out (with_queue e 2 (c ∷ cs)) (take_paid open3 e (length over) (c ∷ cs)).left 2 c cs (omega arith) refl (λ j. twice j (eqb j 2)) idle refl);
         ends = λ w. only_total w 2 over (omega arith);
         many = refl;
         reserved = r;
@@ -191,7 +191,7 @@ module _ (k : ℕ) (small : k < 2) (open3 : Bool) (e : Egress) (idle : e.out ≡
       twice j true = refl
       twice j false = refl
 
-  takes_part : (open2 : Bool) → Takes k e (paid_part_lem open2 open3 e)
+  takes_part : (open2 : Bool) → Takes k e (paid_part open2 open3 e)
   takes_part true = takes_paid (too_dear e.tokens (e.queue 2)) (affordable e.tokens (e.queue 2)) (dear_split e.tokens (e.queue 2)) (dear_reserved e.tokens (e.queue 2))
   takes_part false = takes_last k e e [] none (stays e) (λ w. refl) tt (λ P a. tt) idle open3
 

@@ -68,20 +68,20 @@ abbrev pub take_best_effort : Egress → ℕ → List Copy → Taking
 take_best_effort e n [] = record { taken = None; overdrawn = n; left = e }
 take_best_effort e n (c ∷ cs) = taking (with_queue e 3 cs) n c
 
-abbrev pub best_effort_part_lem : Bool → Egress → ℕ → Taking
-best_effort_part_lem open3 e n = cond open3 (take_best_effort e n (e.queue 3)) (record { taken = None; overdrawn = n; left = e })
+abbrev pub best_effort_part : Bool → Egress → ℕ → Taking
+best_effort_part open3 e n = cond open3 (take_best_effort e n (e.queue 3)) (record { taken = None; overdrawn = n; left = e })
 
 -- in queue 2 the leading copies that cost too much have ended; the next one pays its cost and is taken; cs are the copies from that on
-abbrev pub take_paid_lem : Bool → Egress → ℕ → List Copy → Taking
-take_paid_lem open3 e n [] = best_effort_part_lem open3 (with_queue e 2 []) n
-take_paid_lem open3 e n (c ∷ cs) = taking (with_tokens (with_queue e 2 cs) (e.tokens - cost c)) n c
+abbrev pub take_paid : Bool → Egress → ℕ → List Copy → Taking
+take_paid open3 e n [] = best_effort_part open3 (with_queue e 2 []) n
+take_paid open3 e n (c ∷ cs) = taking (with_tokens (with_queue e 2 cs) (e.tokens - cost c)) n c
 
-abbrev pub paid_part_lem : Bool → Bool → Egress → Taking
-paid_part_lem open2 open3 e = cond open2 (take_paid_lem open3 e (length (too_dear e.tokens (e.queue 2))) (affordable e.tokens (e.queue 2))) (best_effort_part_lem open3 e 0)
+abbrev pub paid_part : Bool → Bool → Egress → Taking
+paid_part open2 open3 e = cond open2 (take_paid open3 e (length (too_dear e.tokens (e.queue 2))) (affordable e.tokens (e.queue 2))) (best_effort_part open3 e 0)
 
 -- first of all comes the first copy of the queue k that is sent in this slot
 abbrev pub take_sending : ℕ → Bool → Bool → Egress → List Copy → Taking
-take_sending k open2 open3 e [] = paid_part_lem open2 open3 e
+take_sending k open2 open3 e [] = paid_part open2 open3 e
 take_sending k open2 open3 e (c ∷ cs) = taking (with_queue e k cs) 0 c
 
 abbrev pub take_at : ℕ → Bool → Bool → Egress → Taking

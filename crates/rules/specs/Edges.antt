@@ -1,7 +1,7 @@
 -- Worked examples at the edges of the rules, of the very definitions that the contracts cite. Assumes nothing.
 use Rattle.std.specs.Prelude.{◌≡◌, ℕ, ◌-◌, ◌^◌, true, false, List, [], ◌∷◌, slice_index}
 use Rattle.cells.specs.Rules.{admitted, ladder_floors, floors_under}
-use Rattle.forwarding.specs.Flows.{flow_of_lem}
+use Rattle.forwarding.specs.Flows.{flow_of}
 use Rattle.frame.specs.Frames.{class, outer_type}
 use Rattle.frame.specs.Refusals.{refused}
 use Rattle.gates.specs.GateLists.{list_fills}
@@ -22,8 +22,8 @@ pub record Edges : Type 0 where
   pub list_fills_one : list_fills (0x01 ∷ 0x02 ∷ []) 0 ≡ 1
   pub list_refused : load_as (0x01 ∷ 0x03 ∷ []) ≡ refused 10 1
   -- the destination 2^31 is flow 1, and all ones is flow 16,383
-  pub flow_one : flow_of_lem (2 ^ 31) ≡ 1
-  pub flow_last : flow_of_lem (2 ^ 48 - 1) ≡ 16383
+  pub flow_one : flow_of (2 ^ 31) ≡ 1
+  pub flow_last : flow_of (2 ^ 48 - 1) ≡ 16383
   -- a tagged frame with tag bytes 0x6000 is reserved, and with 0x5FFF best effort
   pub tag_6000 : (f : List ℕ) → outer_type f ≡ 0x8100 → slice_index f 14 ≡ 0x60 → slice_index f 15 ≡ 0x00 → class f ≡ 1
   pub tag_5FFF : (f : List ℕ) → outer_type f ≡ 0x8100 → slice_index f 14 ≡ 0x5F → slice_index f 15 ≡ 0xFF → class f ≡ 0

@@ -3,8 +3,8 @@ ghost use Rattle.std.specs.Prelude.{◌≡◌, map, IfOk, OnOk};
 ghost use Rattle.frame.specs.Refusals.{Kept, told};
 ghost use Rattle.rules.specs.Switch.{new_answer};
 ghost use Rattle.rules.specs.Twins.{AllAddressed};
-ghost use Rattle.switch.specs.Answers.{gauged};
-ghost use Rattle.switch.specs.Switches.{Sound, kinds as of-switch, meant, state};
+ghost use Rattle.switch.specs.Answers.{gauged, standing_rows};
+ghost use Rattle.switch.specs.Switches.{Sound, kinds as of_switch, meant, state};
 ghost use Rattle.runs.specs.Gauges.{all_gauged};
 ghost use Rattle.runs.specs.Statement.{Statement, started, view};
 ghost use Rattle.runs.specs.Turns.{asked};
@@ -40,7 +40,9 @@ pub fn run<S: Store, P: Plan + Drop, R: Rule + Drop, F: Forwarding + Drop>(
 ) -> Result<Ended<S, P, R, F>, Refusal>
     ensures answer { told (λ _. started settings) result ≡ new_answer settings.slot settings.number settings.rate settings.depth }
     ensures statement { IfOk result (λ e. Statement settings (view S.marks (meant P.fills P.opens R.floors F.forwards kinds.plan kinds.rule kinds.forwarding) turns.old turns.new e)) }
-    ensures kinds { IfOk result (λ e. of-switch e.switch ≡ (kinds.plan, kinds.rule, kinds.forwarding)) }
+    ensures standing { IfOk result (λ e. e.standing ≡ standing_rows (state e.switch)) }
+    ensures gauges { IfOk result (λ e. map gauged e.gauges ≡ all_gauged (state e.switch)) }
+    ensures kinds { IfOk result (λ e. of_switch e.switch ≡ (kinds.plan, kinds.rule, kinds.forwarding)) }
     ensures sound { IfOk result (λ e. Sound S.marks e.switch) }
     ensures addressed { OnOk result (AllAddressed (map asked turns.old)) }
     ensures kept { Kept result turns.old turns.new }

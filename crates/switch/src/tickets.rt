@@ -4,12 +4,12 @@ ghost use Rattle.switch.specs.Answers.{is_spent, ticket_of};
 
 use frame::numbers::FrameNumber;
 
-// Only a Return spends a ticket.
+// A Return spends its ticket, and so does a list of calls, which keeps a ticket by its numbers.
 pub struct Ticket {
     port: u8,
+    spent: bool,
     number: FrameNumber,
     length: usize,
-    spent: bool,
 }
 
 impl Drop for Ticket {
@@ -18,9 +18,9 @@ impl Drop for Ticket {
     {
         let Ticket {
             port: _,
+            spent: _,
             number: _,
             length: _,
-            spent: _,
         } = self;
     }
 }
@@ -32,9 +32,9 @@ impl Ticket {
     {
         Ticket {
             port,
+            spent: false,
             number,
             length,
-            spent: false,
         }
     }
 
@@ -57,7 +57,7 @@ impl Ticket {
         self.length
     }
 
-    // Only a Return takes a ticket apart.
+    // Gives a ticket up for its port and number.
     pub(crate) fn spend(mut self) -> (u8, FrameNumber)
         ensures { (result.0 ≡ (ticket_of self).port) × (result.1.0 ≡ (ticket_of self).number) }
     {

@@ -1,7 +1,7 @@
 // The layer as a store, and what it wrote down.
 ghost use Rattle.std.specs.Prelude.{◌≡◌, [], map};
 ghost use Rattle.frame.specs.Refusals.{told};
-ghost use Rattle.cells.specs.Stores.{Granted, all_free, cell_number};
+ghost use Rattle.cells.specs.Stores.{Granted, all_free, cell_number, given_back};
 ghost use Rattle.cells.specs.Recordings.{recorded, written, written_as};
 
 use crate::recordings::{MOST_RECORDED, Recording};
@@ -55,7 +55,10 @@ impl<S: Store> Store for Recording<S> {
         Ok(cell)
     }
 
-    fn give_back(&mut self, cell: CellId) -> Result<(), Refusal> {
+    fn give_back(&mut self, cell: CellId) -> Result<(), Refusal>
+        ensures answer { (told (λ u. u) result, S.marks self.new.below) ≡ given_back (S.marks self.old.below) (cell_number cell) }
+        ensures recorded { recorded self.new ≡ recorded self.old }
+    {
         self.below.give_back(cell)
     }
 

@@ -3,7 +3,7 @@ ghost use Rattle.std.specs.Prelude.{◌≡◌, ◌-◌, ◌^◌, ◌≤◌, leng
 ghost use Rattle.std.specs.Option.{option_map};
 ghost use Rattle.frame.specs.Refusals.{told};
 ghost use Rattle.frame.specs.Numbers.{address_bits, set_bits};
-ghost use Rattle.forwarding.specs.Rows.{fits_at_lem, first_row, first_wrong_lem};
+ghost use Rattle.forwarding.specs.Rows.{fits_at, first_row, first_wrong};
 ghost use Rattle.forwarding.specs.AddressTables.{used_rows, table_forwards, table_loaded};
 ghost use Rattle.std.proofs.lemmas.Bool.{cond_both};
 ghost use Rattle.frame.specs.Numbers;
@@ -20,7 +20,7 @@ use frame::refusals::Refusal;
 impl Row {
     // Whether a table can hold this row at this place.
     fn fits_at(&self, place: usize) -> bool
-        ensures { result ≡ fits_at_lem place self.now }
+        ensures { result ≡ fits_at place self.now }
     {
         place < ROWS && self.ports <= ALL_PORTS
     }
@@ -28,7 +28,7 @@ impl Row {
 
 // The place of the first row that a table cannot hold.
 fn first_wrong(rows: &[Row]) -> Option<usize>
-    ensures { result ≡ first_wrong_lem 0 rows.now }
+    ensures { result ≡ first_wrong 0 rows.now }
 {
     for (place, row) in rows.iter().enumerate() {
         if !row.fits_at(place) {

@@ -3,7 +3,7 @@ ghost use Rattle.std.specs.Prelude.{◌≡◌, ◌<◌};
 ghost use Rattle.std.specs.Option.{option_map};
 ghost use Rattle.frame.specs.Refusals.{told};
 ghost use Rattle.frame.specs.Numbers.{address_bits, set_bits};
-ghost use Rattle.forwarding.specs.Flows.{all_flows, flow_of_lem, flow_put, flow_row, no_flows, with_flow};
+ghost use Rattle.forwarding.specs.Flows.{all_flows, flow_of, flow_put, flow_row, no_flows, with_flow};
 ghost use Rattle.forwarding.specs.FlowBytes.{flow_byte};
 ghost use Rattle.forwarding.specs.FlowTables.{flow_set, flow_forwards};
 ghost use Rattle.forwarding.specs.FlowsLemmas.{row_narrow};
@@ -47,7 +47,7 @@ impl FlowBytes {
 
 // The flow of a destination.
 fn flow_of(destination: Address) -> usize
-    ensures { result ≡ flow_of_lem (address_bits destination) }
+    ensures { result ≡ flow_of (address_bits destination) }
 {
     (destination.bits() >> FLOW_SHIFT) as usize % FLOWS
 }
@@ -79,7 +79,7 @@ impl FlowTable {
 
     // The set of the destination's flow.
     fn row_for(&self, destination: Address) -> Option<PortSet>
-        ensures { option_map set_bits result ≡ flow_row (flow_set self.now (flow_of_lem (address_bits destination))) }
+        ensures { option_map set_bits result ≡ flow_row (flow_set self.now (flow_of (address_bits destination))) }
     {
         match self.sets.get(flow_of(destination)) {
             NO_PORTS => None,
@@ -92,8 +92,8 @@ impl Forwarding for FlowTable {
     ghost forwards = { flow_forwards };
 
     ghost proper = { λ t d p hd hp.
-        let s = flow_set t (flow_of_lem d) in
-        formed_proper (flow_row s) p hp (row_narrow s (t.narrow (flow_of_lem d))) };
+        let s = flow_set t (flow_of d) in
+        formed_proper (flow_row s) p hp (row_narrow s (t.narrow (flow_of d))) };
 
     fn route(&self, destination: Address, input: Port) -> Route {
         form(self.row_for(destination), input)

@@ -1,6 +1,6 @@
 // Where the bytes of a list are wrong, before one is made of them.
 ghost use Rattle.std.specs.Prelude.{◌≡◌, ◌<◌, length};
-ghost use Rattle.gates.specs.GateLists.{entry_bit, first_from, first_wrong_lem, wrong_at};
+ghost use Rattle.gates.specs.GateLists.{entry_bit, first_from, first_wrong, wrong_at};
 
 use crate::gate_lists::{FEWEST, MOST};
 
@@ -9,7 +9,7 @@ const ALL_OPEN: u8 = 15;
 
 // The place where the list is wrong first, if it is.
 pub(super) fn first_wrong(entries: &[u8]) -> Option<usize>
-    ensures { result ≡ first_wrong_lem entries.now }
+    ensures { result ≡ first_wrong entries.now }
 {
     let count = entries.len();
     if count < FEWEST || count > MOST || count % 2 != 0 {

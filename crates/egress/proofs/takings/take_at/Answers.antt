@@ -2,7 +2,7 @@ use Rattle.std.proofs.Common.{◌≡◌, ℕ, Bool, sym, ap, ◌∙◌}
 use Rattle.std.specs.Option.{option_map}
 use Rattle.buffers.specs.Holdings.{changed, egress}
 use Rattle.buffers.specs.Sent.{sent}
-use Rattle.rules.specs.Copies.{Egress, paid_part_lem, put, take_sending}
+use Rattle.rules.specs.Copies.{Egress, paid_part, put, take_sending}
 use Rattle.egress.proofs.Cells.{agree_moved}
 use Rattle.egress.proofs.Contents.{freed_on, freed_same, none_freed, same_contents}
 use Rattle.egress.proofs.Taken.{none_first, sent_first, unmoved}
@@ -30,10 +30,10 @@ returns-in_default g c =
     let take = c.in_default.ensures in
     let paid = c.paid_part.ensures in
     let same = λ (d : ℕ). unmoved (before d) (egress d c.take_first.new.buffers) p k (take.state d) (take.answer d) (c.requires.out d) in
-    let is : (d : ℕ) → paid_part_lem o2 o3 (before d p) ≡ take_sending k o2 o3 (before d p) ((before d p).queue k) = λ d. ap (take_sending k o2 o3 (before d p)) (sym (none_first ((before d p).queue k) (take.answer d))) in
+    let is : (d : ℕ) → paid_part o2 o3 (before d p) ≡ take_sending k o2 o3 (before d p) ((before d p).queue k) = λ d. ap (take_sending k o2 o3 (before d p)) (sym (none_first ((before d p).queue k) (take.answer d))) in
     record {
-      answer = λ d. paid.answer d ∙ ap (λ f. shows (paid_part_lem o2 o3 (f p))) (same d) ∙ ap shows (is d);
-      state = λ d. paid.state d ∙ (λ i. changed (same d i) p (λ e. (paid_part_lem o2 o3 e).left)) ∙ (λ i. put (before d) p (is d i).left);
+      answer = λ d. paid.answer d ∙ ap (λ f. shows (paid_part o2 o3 (f p))) (same d) ∙ ap shows (is d);
+      state = λ d. paid.state d ∙ (λ i. changed (same d i) p (λ e. (paid_part o2 o3 e).left)) ∙ (λ i. put (before d) p (is d i).left);
       number = paid.number ∙ take.number;
       sound = paid.sound;
       contents = freed_on (freed_same (none_freed _) (same_contents c.args.buffers.now c.take_first.new.buffers take.frames take.cells)) paid.contents;

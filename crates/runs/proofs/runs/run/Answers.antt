@@ -58,6 +58,8 @@ returns g c =
     record {
       answer = ap accepted (sym is) ∙ new.answer;
       statement = finished settings under done all (lawful g c.args.kinds.plan c.args.kinds.rule c.args.kinds.forwarding) (subst (λ n. n < numbers) (ap (λ x. x.slot) is) switch.slot.within) c.standing.result c.gauge_all.result c.standing.ensures c.gauge_all.ensures;
+      standing = c.standing.ensures;
+      gauges = c.gauge_all.ensures;
       kinds = c.loop-turn.invariant.1 ∙ new.kinds;
       sound = c.loop-turn.invariant.0.sound;
       addressed = all_addressed settings under done all;

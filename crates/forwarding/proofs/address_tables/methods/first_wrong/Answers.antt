@@ -1,6 +1,6 @@
 use Rattle.std.proofs.Common.{sym, ◌∙◌}
 use Rattle.std.proofs.lemmas.List.{at_drop_all}
-use Rattle.forwarding.specs.Rows.{first_wrong_lem}
+use Rattle.forwarding.specs.Rows.{first_wrong}
 use Rattle.forwarding.specs.Searches.{wrong_here, wrong_later}
 use Rattle.forwarding.proofs.address_tables.methods.first_wrong.Goals as goal
 
@@ -14,4 +14,4 @@ loop-place-preserved c =
 
 pub returns : goal.returns
 returns c =
-    sym (at_drop_all (first_wrong_lem c.loop-place.place) c.args.rows.now c.loop-place.place c.loop-place-test.false) ∙ c.loop-place.invariant
+    sym (at_drop_all (first_wrong c.loop-place.place) c.args.rows.now c.loop-place.place c.loop-place-test.false) ∙ c.loop-place.invariant
