@@ -1,9 +1,10 @@
 -- A frame that is in a cell has a copy, and a frame that has a copy is in a cell. Assumes nothing.
-use Rattle.std.proofs.Common.{◌≡◌, ℕ, ◌+◌, ◌<◌, ◌≤◌, Bool, true, false, cond, eqb, List, [], ◌∷◌, map, get_or, Some, None, sym, refl, ap, ◌∙◌, ⊎_elim, arith}
+use Rattle.std.proofs.Common.{◌≡◌, ℕ, ◌+◌, ◌<◌, ◌≤◌, Bool, true, false, cond, eqb, List, [], ◌∷◌, map, get_or, sum_by, Some, None, sym, refl, ap, ◌∙◌, ⊎_elim, arith}
 use Rattle.std.proofs.lemmas.List.{get_or_past}
+use Rattle.std.proofs.lemmas.List.Sums.{sum_by-append, sum_by-cons}
 use Rattle.std.proofs.lemmas.Bool.{cases_Bool, cases_eq, cases_lt, cond-false, eq-eqb, eqb-false, eqb-true, ne_eqb}
 use Rattle.std.specs.Option.{option_to_list}
-use Rattle.rules.proofs.Totals.{total_append}
+use Rattle.frame.specs.Numbers.{cell_number}
 use Rattle.rules.specs.Copies.{copies_at, queued_at}
 use Rattle.rules.specs.Runs.{bit, count, numbered}
 use Rattle.buffers.proofs.Held.{copies_line, copy, entries_at, sum_at}
@@ -11,53 +12,58 @@ use Rattle.buffers.proofs.Soundness.{fine, in_other, in_own}
 use Rattle.buffers.proofs.Sums.{line_in_lines}
 use Rattle.buffers.proofs.Views.{at_port}
 use Rattle.buffers.specs.Boards.{lines}
-use Rattle.buffers.specs.Entries.{in_cell, over_line, over_lines, stray, sum_by}
+use Rattle.buffers.specs.Entries.{in_cell, over_line, over_lines, stray}
 use Rattle.buffers.specs.Holdings.{contents, egress, frame_at, free}
 use Rattle.buffers.specs.Lines.{Line}
-use Rattle.buffers.specs.Notes.{notes}
 use Rattle.buffers.specs.declared.buffers.Buffers.{Buffers}
 use Rattle.buffers.specs.declared.ports.Waiting.{Waiting}
 
 -- how often frame n has a copy at port p
-abbrev pub copies_of : ℕ → Buffers → ℕ → ℕ → ℕ
+abbrev copies_of : ℕ → Buffers → ℕ → ℕ → ℕ
 copies_of d b n p = count (numbered n) (queued_at (egress d b p)) + count (numbered n) (option_to_list (egress d b p).out)
 
 module _ (b : Buffers) where
   -- each entry in a cell is a copy of the frame there
-  in_cell_copies : (c : ℕ) (es : List Waiting) → sum_by (stray (notes b.frames)) es ≡ 0 → sum_by (in_cell c) es ≤ count (numbered (frame_at b c).number) (map (copy b) es)
+  in_cell_copies : (c : ℕ) (es : List Waiting) → sum_by (stray (frame_at b)) es ≡ 0 → sum_by (in_cell c) es ≤ count (numbered (frame_at b c).number) (map (copy b) es)
   in_cell_copies c [] clean = omega arith
   in_cell_copies c (e ∷ es) clean =
+      let sums = sum_by-cons (stray (frame_at b)) e es in
+      let entries = sum_by-cons (in_cell c) e es in
+      let copies = sum_by-cons (λ x. bit (numbered (frame_at b c).number x)) (copy b e) (map (copy b) es) in
       let rest = in_cell_copies c es (omega arith) in
       ⊎_elim
       (λ same.
-      let own = fine (notes b.frames) e (omega arith) in
-      let is : e.number.0 ≡ (frame_at b c).number = sym own.2 ∙ sym (ap (λ x. (notes b.frames x).number) same) in
+      let own = fine (frame_at b) e (omega arith) in
+      let is : e.number.0 ≡ (frame_at b c).number = sym own.1 ∙ sym (ap (λ x. (frame_at b x).number) same) in
       omega (arith, rest, in_own e c same, ap bit (eq-eqb _ _ is)))
       (λ other. omega (arith, rest, in_other e c other))
-      (cases_eq c e.cell.0)
+      (cases_eq c (cell_number e.cell))
 
   -- a copy of frame n has an entry in the cell that holds n
-  copies_in_cell : (n : ℕ) (es : List Waiting) → sum_by (stray (notes b.frames)) es ≡ 0 → 0 < count (numbered n) (map (copy b) es) → (c : ℕ) × ((frame_at b c).number ≡ n) × (0 < sum_by (in_cell c) es)
+  copies_in_cell : (n : ℕ) (es : List Waiting) → sum_by (stray (frame_at b)) es ≡ 0 → 0 < count (numbered n) (map (copy b) es) → (c : ℕ) × ((frame_at b c).number ≡ n) × (0 < sum_by (in_cell c) es)
   copies_in_cell n [] clean some = absurd (omega arith)
   copies_in_cell n (e ∷ es) clean some =
+      let sums = sum_by-cons (stray (frame_at b)) e es in
+      let copies = sum_by-cons (λ x. bit (numbered n x)) (copy b e) (map (copy b) es) in
       ⊎_elim
       (λ is.
-      let own = fine (notes b.frames) e (omega arith) in
-      (e.cell.0, own.2 ∙ eqb-true _ _ is, omega (arith, in_own e e.cell.0 refl)))
+      let own = fine (frame_at b) e (omega arith) in
+      let c = cell_number e.cell in
+      (c, own.1 ∙ eqb-true _ _ is, omega (arith, sum_by-cons (in_cell c) e es, in_own e c refl)))
       (λ other.
       let r = copies_in_cell n es (omega arith) (omega (arith, ap bit other)) in
-      (r.0, r.1, omega (arith, r.2)))
+      (r.0, r.1, omega (arith, sum_by-cons (in_cell r.0) e es, r.2)))
       (cases_Bool (eqb e.number.0 n))
 
-  clean_at : (p : ℕ) → p < 4 → sum_by (stray (notes b.frames)) (entries_at (lines b.board p)) ≡ 0
+  clean_at : (p : ℕ) → p < 4 → sum_by (stray (frame_at b)) (entries_at (lines b.board p)) ≡ 0
   clean_at p low =
-      omega (arith, b.known, line_in_lines (stray (notes b.frames)) (lines b.board) p low, sum_at (stray (notes b.frames)) (lines b.board p))
+      omega (arith, b.known, line_in_lines (stray (frame_at b)) (lines b.board) p low, sum_at (stray (frame_at b)) (lines b.board p))
 
   copies_are : (d n p : ℕ) → p < 4 → copies_of d b n p ≡ count (numbered n) (map (copy b) (entries_at (lines b.board p)))
   copies_are d n p low =
       let e = egress d b p in
-      sym (total_append (λ c. bit (numbered n c)) (queued_at e) (option_to_list e.out))
-      ∙ ap (λ x. count (numbered n) (copies_at x)) (at_port b.memory (notes b.frames) d (lines b.board) p low)
+      sym (sum_by-append (λ c. bit (numbered n c)) (queued_at e) (option_to_list e.out))
+      ∙ ap (λ x. count (numbered n) (copies_at x)) (at_port b p low d)
       ∙ ap (count (numbered n)) (copies_line b (lines b.board p))
 
   some_port : (f : Waiting → ℕ) (ls : ℕ → Line) → 0 < over_lines f ls → (p : ℕ) × (p < 4) × (0 < over_line f (ls p))
@@ -69,10 +75,10 @@ module _ (b : Buffers) where
   held_there c n = at (free b c) refl
     where
       at : (t : Bool) → free b c ≡ t → cond t None (Some (frame_at b c).number) ≡ Some n → (free b c ≡ false) × ((frame_at b c).number ≡ n)
-      at true f e = absurd (let z : ◌≡◌ {A = ℕ} 0 1 = cc in omega arith)
+      at true f e = cc
       at false f e = (f, cc)
 
-  pub cell_below : (c : ℕ) → free b c ≡ false → c < 32
+  cell_below : (c : ℕ) → free b c ≡ false → c < 32
   cell_below c held =
       ⊎_elim (λ low. low) (λ high. absurd (eqb-false _ 0 held (get_or_past b.counts c 0 (omega (arith, b.wide))))) (cases_lt c 32)
 

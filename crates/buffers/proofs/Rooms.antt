@@ -1,13 +1,13 @@
 -- A cell is at most once at a port, so that a queue with a place for each cell has room for one that is not there. Assumes nothing.
-use Rattle.std.proofs.Common.{◌≡◌, ℕ, zero, suc, ◌+◌, ◌<◌, ◌≤◌, cond, eqb, ltb, List, [], ◌∷◌, length, refl, ap, ⊎_elim, arith}
+use Rattle.std.proofs.Common.{◌≡◌, ℕ, zero, suc, ◌+◌, ◌<◌, ◌≤◌, cond, eqb, ltb, List, [], ◌∷◌, length, sum_by, refl, ap, ⊎_elim, arith}
 use Rattle.std.proofs.lemmas.Bool.{cases_eq, cases_lt, cond-false, cond-true, eq-eqb, le-ltb, lt-ltb, ne_eqb}
-use Rattle.frame.proofs.Ports.{each_of_four}
-use Rattle.buffers.proofs.Soundness.{Sound, fine}
-use Rattle.buffers.proofs.Sums.{line_in_lines}
-use Rattle.buffers.specs.Entries.{in_cell, over_line, stray, sum_by}
-use Rattle.buffers.specs.Lines.{Line}
-use Rattle.buffers.specs.Notes.{Note}
-use Rattle.buffers.specs.declared.memories.Memory.{Memory}
+use Rattle.std.proofs.lemmas.List.Sums.{sum_by-cons}
+use Rattle.frame.specs.Numbers.{cell_number}
+use Rattle.frame.specs.declared.numbers.Cell.{Cell}
+use Rattle.buffers.proofs.Sums.{queue_in_line}
+use Rattle.buffers.specs.Boards.{lines}
+use Rattle.buffers.specs.Entries.{in_cell, over_line}
+use Rattle.buffers.specs.declared.buffers.Buffers.{Buffers}
 use Rattle.buffers.specs.declared.ports.Waiting.{Waiting}
 
 -- the sum of g over the numbers below n
@@ -58,13 +58,13 @@ upto_only x v (suc n) h =
     (cases_eq x n)
 
 -- entries counted cell by cell
-pub cells_all : (ns : ℕ → Note) (es : List Waiting) → sum_by (stray ns) es ≡ 0 → upto (λ d. sum_by (in_cell d) es) 32 ≡ length es
-cells_all ns [] none = upto_none (λ d. 0) (λ d. refl) 32
-cells_all ns (e ∷ es) none =
-    omega (arith, upto_add (λ d. in_cell d e) (λ d. sum_by (in_cell d) es) 32, upto_only e.cell.0 1 32 (fine ns e (omega arith)).0, cells_all ns es (omega arith))
+cells_all : (es : List Waiting) → upto (λ d. sum_by (in_cell d) es) 32 ≡ length es
+cells_all [] = upto_none (λ d. 0) (λ d. refl) 32
+cells_all (e ∷ es) =
+    omega (arith, upto_same (λ d. sum_by (in_cell d) (e ∷ es)) (λ d. in_cell d e + sum_by (in_cell d) es) 32 (λ d l. sum_by-cons (in_cell d) e es), upto_add (λ d. in_cell d e) (λ d. sum_by (in_cell d) es) 32, upto_only (cell_number e.cell) 1 32 e.cell.within, cells_all es)
 
 -- at most one each, and none of c
-pub upto_less : (g : ℕ → ℕ) (c : ℕ) → ((d : ℕ) → g d ≤ 1) → g c ≡ 0 → (n : ℕ) → upto g n + cond (ltb c n) 1 0 ≤ n
+upto_less : (g : ℕ → ℕ) (c : ℕ) → ((d : ℕ) → g d ≤ 1) → g c ≡ 0 → (n : ℕ) → upto g n + cond (ltb c n) 1 0 ≤ n
 unfolding upto
 upto_less g c few none zero = omega (arith, cond-false {A = ℕ} (ltb c 0) 1 0 (le-ltb c 0 (omega arith)))
 upto_less g c few none (suc n) =
@@ -77,13 +77,10 @@ upto_less g c few none (suc n) =
     (cases_eq c n))
     (cases_lt c n)
 
-pub queue_in_line : (f : Waiting → ℕ) (l : Line) (k : ℕ) → k < 4 → sum_by f (l.queue k) ≤ over_line f l
-queue_in_line f l = each_of_four (λ k. sum_by f (l.queue k) ≤ over_line f l) (omega arith) (omega arith) (omega arith) (omega arith)
-
-pub room : {ls : ℕ → Line} {m : Memory} {ns : ℕ → Note} {cs : ℕ → ℕ} {next : ℕ} → Sound ls m ns cs next → (p k c : ℕ) → p < 4 → k < 4 → c < 32 → over_line (in_cell c) (ls p) ≡ 0 → length ((ls p).queue k) < 32
-room {ls} {m} {ns} s p k c low lowk in-range absent =
-    let es = (ls p).queue k in
-    let few : (d : ℕ) → sum_by (in_cell d) es ≤ 1 = λ d. omega (arith, queue_in_line (in_cell d) (ls p) k lowk, s.once p d) in
-    let none : sum_by (in_cell c) es ≡ 0 = omega (arith, queue_in_line (in_cell c) (ls p) k lowk, absent) in
-    let clean : sum_by (stray ns) es ≡ 0 = omega (arith, queue_in_line (stray ns) (ls p) k lowk, line_in_lines (stray ns) ls p low, s.known) in
-    omega (arith, cells_all ns es clean, upto_less (λ d. sum_by (in_cell d) es) c few none 32, cond-true {A = ℕ} (ltb c 32) 1 0 (lt-ltb c 32 in-range))
+-- a queue of a port has room for the frame in a cell that is not there yet
+pub room : (b : Buffers) (p k : ℕ) (c : Cell) → k < 4 → over_line (in_cell (cell_number c)) (lines b.board p) ≡ 0 → length ((lines b.board p).queue k) < 32
+room b p k c low absent =
+    let es = (lines b.board p).queue k in
+    let few : (d : ℕ) → sum_by (in_cell d) es ≤ 1 = λ d. omega (arith, queue_in_line (in_cell d) (lines b.board p) k low, b.once p d) in
+    let none : sum_by (in_cell (cell_number c)) es ≡ 0 = omega (arith, queue_in_line (in_cell (cell_number c)) (lines b.board p) k low, absent) in
+    omega (arith, cells_all es, upto_less (λ d. sum_by (in_cell d) es) (cell_number c) few none 32, cond-true {A = ℕ} (ltb (cell_number c) 32) 1 0 (lt-ltb (cell_number c) 32 c.within))

@@ -1,8 +1,9 @@
-pub mod Queues
 pub mod Memories
+pub mod Lanes
 pub mod Lines
 pub mod Boards
-pub mod Notes
+pub mod Kept
+pub mod Frames
 pub mod Entries
 pub mod Endings
 pub mod Holdings

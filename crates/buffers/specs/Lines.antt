@@ -1,7 +1,8 @@
 -- A port's line: what stands at a port, as entries. Assumes nothing.
 use Rattle.std.specs.Prelude.{ℕ, zero, suc, cond, List, [], ◌∷◌, ◌++◌, map, None, Option, ◌==◌}
 use Rattle.rules.specs.Copies.{put}
-use Rattle.buffers.specs.Queues.{first_of, items, rest_of}
+use Rattle.cells.specs.Fifos.{first_of, rest_of}
+use Rattle.buffers.specs.Lanes.{waiting}
 use Rattle.buffers.specs.declared.ports.PortRecord.{PortRecord}
 use Rattle.buffers.specs.declared.ports.Waiting.{Waiting}
 
@@ -22,8 +23,8 @@ by_queue a b c d (suc (suc (suc (suc k)))) = []
 
 abbrev pub line : PortRecord → Line
 line r = record {
-  queue = by_queue (items r.queue0 r.entries0) (items r.queue1 r.entries1) (map (λ e. e.entry) (items r.queue2 r.entries2)) (items r.queue3 r.entries3);
-  prices = map (λ e. e.cost) (items r.queue2 r.entries2);
+  queue = by_queue (waiting r.cyclic0) (waiting r.cyclic1) (map (λ e. e.entry) (waiting r.paid)) (waiting r.best_effort);
+  prices = map (λ e. e.cost) (waiting r.paid);
   tokens = r.tokens;
   out = r.out;
 }

@@ -2,13 +2,14 @@
 ghost use Rattle.std.specs.Prelude.{◌≡◌, ℕ, ◌<◌, [], ◌∷◌, length, if◌then◌else◌, None, nat_lt};
 ghost use Rattle.frame.specs.Numbers.{port_number, queue_number};
 ghost use Rattle.rules.specs.Copies.{put};
-ghost use Rattle.buffers.specs.Queues.{first_of};
-ghost use Rattle.buffers.specs.Lines.{empty_line, outed, pushed, shifted, with_out, with_tokens};
+ghost use Rattle.cells.specs.Fifos.{first_of};
+ghost use Rattle.buffers.specs.Lines.{empty_line, line, outed, pushed, shifted, with_out, with_tokens};
 ghost use Rattle.buffers.specs.Boards.{lines, row};
 
-use crate::ports::{Gauge, PortRecord, Priced, Waiting};
+use crate::ports::{PortRecord, Priced, Waiting};
 use frame::numbers::{Port, Queue};
 
+// A change of a port is handed on by a method: an element of an array cannot be lent with a promise of what comes back.
 #[derive(Drop)]
 pub struct Board {
     ports: [PortRecord; 4],
@@ -19,20 +20,21 @@ impl Board {
         ensures { (p : ℕ) → lines result p ≡ empty_line (if nat_lt p 4 then tokens else 0) }
     {
         Board {
-            ports: [
-                PortRecord::new(tokens),
-                PortRecord::new(tokens),
-                PortRecord::new(tokens),
-                PortRecord::new(tokens),
-            ],
+            ports: [tokens; 4].map(PortRecord::new),
         }
     }
 
-    pub(crate) fn push(&mut self, port: Port, queue: Queue, e: Priced)
-        requires { length ((lines self.old (port_number port)).queue (queue_number queue)) < 32 }
-        ensures { lines self.new ≡ put (lines self.old) (port_number port) (pushed (lines self.old (port_number port)) (queue_number queue) e.entry e.cost) }
+    pub(crate) fn port(&self, port: Port) -> &PortRecord
+        ensures { line result.now ≡ lines self.now (port_number port) }
     {
-        self.ports[port.number() as usize].push(queue, e)
+        &self.ports[port.number() as usize]
+    }
+
+    pub(crate) fn push(&mut self, port: Port, queue: Queue, copy: Priced)
+        requires { length ((lines self.old (port_number port)).queue (queue_number queue)) < 32 }
+        ensures { lines self.new ≡ put (lines self.old) (port_number port) (pushed (lines self.old (port_number port)) (queue_number queue) copy.entry copy.cost) }
+    {
+        self.ports[port.number() as usize].push(queue, copy)
     }
 
     pub(crate) fn pop(&mut self, port: Port, queue: Queue) -> Option<Waiting>
@@ -60,19 +62,6 @@ impl Board {
         ensures { lines self.new ≡ put (lines self.old) (port_number port) (with_tokens (lines self.old (port_number port)) tokens) }
     {
         self.ports[port.number() as usize].set_tokens(tokens)
-    }
-
-    pub(crate) fn gauge(&self, port: Port) -> Gauge
-        ensures tokens { result.tokens ≡ (lines self.now (port_number port)).tokens }
-        ensures out { result.out ≡ (lines self.now (port_number port)).out }
-    {
-        self.ports[port.number() as usize].gauge()
-    }
-
-    pub(crate) fn price(&self, port: Port) -> Option<u32>
-        ensures { result ≡ first_of (lines self.now (port_number port)).prices }
-    {
-        self.ports[port.number() as usize].price()
     }
 
     // How many copies are in each queue of each port.

@@ -1,12 +1,13 @@
-// What is known of the frame in each cell.
-ghost use Rattle.std.specs.Prelude.{◌≡◌, ◌<◌, ◌≤◌, length};
+// The frames that the cells hold, and what is known of each.
+ghost use Rattle.std.specs.Prelude.{◌≡◌, ℕ, ◌^◌, ◌<◌, ◌≤◌, length};
 ghost use Rattle.frame.specs.Classes.{class_number};
-ghost use Rattle.rules.specs.Copies.{cost, put};
-ghost use Rattle.buffers.specs.Notes.{copy_like, no_note, noted, notes};
+ghost use Rattle.rules.specs.Copies.{cost};
+ghost use Rattle.buffers.specs.Kept.{copy_like, frame_in, kept_at};
 
+use crate::memories::Memory;
 use cells::stores::CELLS;
 use frame::classes::Class;
-use frame::numbers::{CellId, FrameNumber};
+use frame::numbers::{Cell, FrameNumber};
 
 // The cost is what each copy of the frame costs where copies are paid for. A cell that held no frame yet has length 0.
 #[derive(Clone, Copy)]
@@ -17,13 +18,22 @@ pub struct Kept {
     pub cost: u32,
 }
 
+// What a cell holds or held last has a number of its own, below that of the next frame, and its cost is the definition's.
 #[derive(Drop)]
 pub struct Frames {
+    memory: Memory,
     kept: [Kept; CELLS],
+    next: u64,
+    ghost short: { (c : ℕ) → (kept_at kept c).length ≤ 1518 },
+    ghost long: { (c : ℕ) → length (frame_in memory kept c).bytes ≡ (kept_at kept c).length },
+    ghost costed: { (c : ℕ) → (kept_at kept c).cost ≡ cost (frame_in memory kept c) },
+    ghost apart: { (c d : ℕ) → (0 < (kept_at kept c).length) × (0 < (kept_at kept d).length) × ((kept_at kept c).number.0 ≡ (kept_at kept d).number.0) → c ≡ d },
+    ghost young: { (c : ℕ) → 0 < (kept_at kept c).length → (kept_at kept c).number.0 < next },
+    ghost last: { next ≤ 2 ^ 48 },
 }
 
 // What a copy of this frame costs of its port's tokens. No other code knows how a cost comes about.
-pub(crate) fn cost_of(class: Class, frame: &[u8]) -> u32
+fn cost_of(class: Class, frame: &[u8]) -> u32
     requires { length frame.now ≤ 1518 }
     ensures { result ≡ cost (copy_like (class_number class) frame.now) }
 {
@@ -34,31 +44,69 @@ pub(crate) fn cost_of(class: Class, frame: &[u8]) -> u32
 }
 
 impl Frames {
-    pub(crate) fn new() -> Frames
-        ensures { notes result ≡ (λ c. no_note) }
+    ghost use Rattle.std.specs.Prelude.{◌+◌, ◌++◌, drop};
+    ghost use Rattle.frame.specs.Numbers.{cell_number};
+    ghost use Rattle.rules.specs.Copies.{put};
+    ghost use Rattle.buffers.specs.Frames.{held, no_frame, upcoming, Describes};
+
+    // No frame is in a cell, and the first one gets this number.
+    pub(crate) fn new(first: u64) -> Frames
+        requires { first ≤ 2 ^ 48 }
+        ensures state { held result ≡ (λ c. no_frame) }
+        ensures number { upcoming result ≡ first }
     {
         Frames {
+            memory: Memory::new(),
             kept: [Kept {
                 number: FrameNumber(0),
                 length: 0,
                 class: Class::BestEffort,
                 cost: 0,
             }; CELLS],
+            next: first,
         }
     }
 
-    pub(crate) fn get(&self, cell: CellId) -> Kept
-        requires { cell.0 < 32 }
-        ensures { noted result ≡ notes self.now cell.0 }
+    // The number that the next frame gets.
+    pub(crate) fn next(&self) -> u64
+        ensures { result ≡ upcoming self.now }
     {
-        self.kept[cell.0 as usize]
+        self.next
     }
 
-    pub(crate) fn put(&mut self, cell: CellId, kept: Kept)
-        requires { cell.0 < 32 }
-        ensures { notes self.new ≡ put (notes self.old) cell.0 (noted kept) }
+    pub(crate) fn get(&self, cell: Cell) -> Kept
+        ensures { Describes result (held self.now (cell_number cell)) }
     {
-        let at = cell.0 as usize;
-        self.kept[at] = kept;
+        self.kept[cell.index()]
+    }
+
+    // Writes a frame into a cell, and gives it the next number.
+    pub(crate) fn place(&mut self, cell: Cell, class: Class, frame: &[u8]) -> FrameNumber
+        requires some { 0 < length frame.now }
+        requires short { length frame.now ≤ 1518 }
+        requires numbers { upcoming self.old < 2 ^ 48 }
+        ensures answer { result.0 ≡ upcoming self.old }
+        ensures state { held self.new ≡ put (held self.old) (cell_number cell) (record { number = upcoming self.old; class = class_number class; bytes = frame.now }) }
+        ensures number { upcoming self.new ≡ upcoming self.old + 1 }
+    {
+        let number = FrameNumber(self.next);
+        self.next += 1;
+        self.memory.write(cell, frame);
+        self.kept[cell.index()] = Kept {
+            number,
+            length: frame.len(),
+            class,
+            cost: cost_of(class, frame),
+        };
+        number
+    }
+
+    // Writes the frame in a cell to the front of a buffer that has room for it.
+    pub(crate) fn read(&self, cell: Cell, buffer: &mut [u8])
+        requires { length (held self.now (cell_number cell)).bytes ≤ length buffer.old }
+        ensures { buffer.new ≡ (held self.now (cell_number cell)).bytes ++ drop (length (held self.now (cell_number cell)).bytes) buffer.old }
+    {
+        let kept = self.get(cell);
+        self.memory.read(cell, kept.length, buffer);
     }
 }

@@ -5,6 +5,6 @@ pub mod boards;
 pub mod buffers;
 pub mod endings;
 pub mod frames;
+pub mod lanes;
 pub mod memories;
 pub mod ports;
-pub mod queues;

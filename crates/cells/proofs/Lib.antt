@@ -1,1 +1,3 @@
 pub mod Drained
+pub mod Queued
+pub mod Granting

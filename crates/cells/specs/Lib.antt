@@ -1,6 +1,7 @@
 pub mod Stores
 pub mod Masks
 pub mod Rings
+pub mod Fifos
 pub mod Orders
 pub mod Rules
 pub mod Settings

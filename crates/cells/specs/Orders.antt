@@ -1,17 +1,19 @@
 -- The order in which a ring grants its cells. Assumes nothing.
-use Rattle.std.specs.Prelude.{ℕ, Bool, List, [], ◌∷◌, ◌++◌}
+use Rattle.std.specs.Prelude.{ℕ, Bool, List, [], ◌∷◌, ◌++◌, map}
 use Rattle.std.specs.List.{range_with_len}
 use Rattle.frame.specs.Refusals.{Told, accepted, refused}
 use Rattle.cells.specs.Stores.{cell_count}
-use Rattle.cells.specs.Rings.{turn}
+use Rattle.cells.specs.Fifos.{items}
+use Rattle.frame.specs.Numbers.{cell_number}
 use Rattle.cells.specs.declared.rings.Ring.{Ring}
 
+-- entry c is true where cell c is free
 abbrev pub ring_marks : Ring → List Bool
 ring_marks r = r.marks
 
 -- the free cells, the longest free first
 abbrev pub order : Ring → List ℕ
-order r = turn r.cells r.head r.count
+order r = map cell_number (items r.free r.cells)
 
 -- at first 0, 1 and so on to the last cell
 unfoldable pub first_order : List ℕ

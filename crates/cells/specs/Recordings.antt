@@ -1,12 +1,12 @@
 -- What a recording layer wrote down. Assumes nothing.
-use Rattle.std.specs.Prelude.{ℕ, cond, List, [], ◌∷◌, ◌++◌, map, length, take, nat_lt}
+use Rattle.std.specs.Prelude.{ℕ, cond, List, [], ◌∷◌, ◌++◌, map, length, nat_lt}
 use Rattle.frame.specs.Refusals.{Told, accepted, refused}
-use Rattle.cells.specs.Stores.{cell_number}
+use Rattle.frame.specs.Numbers.{id_number}
 use Rattle.cells.specs.declared.recordings.Recording.{Recording}
 
 -- the cells that were granted, the first grant first
 abbrev pub recorded : {S : Type 0} → Recording S → List ℕ
-recorded r = map cell_number (take r.count r.cells)
+recorded r = map id_number r.cells.items
 
 -- one more, if there is room for 1,024 of them
 abbrev pub written : List ℕ → ℕ → List ℕ

@@ -6,6 +6,7 @@ use Rattle.cells.specs.Stores.{cell_count}
 abbrev pub turn : {E : Type 0} → List E → ℕ → ℕ → List E
 turn entries h n = take n (drop h (entries ++ entries))
 
+-- the marks of a store with no free cell
 unfoldable pub none_free : List Bool
 none_free = replicate cell_count false
 

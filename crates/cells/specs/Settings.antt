@@ -4,6 +4,7 @@ use Rattle.frame.specs.Refusals.{Told, accepted, refused}
 use Rattle.cells.specs.Rules.{floors_under}
 use Rattle.cells.specs.declared.thresholds.Thresholds.{Thresholds}
 
+-- the floors of a rule whose thresholds were set
 abbrev pub threshold_floors : Thresholds → ℕ → ℕ
 threshold_floors t = floors_under t.reserved t.best_effort
 

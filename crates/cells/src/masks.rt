@@ -1,13 +1,15 @@
 // A store that is a number of 32 bits, and grants the highest free cell.
 ghost use Rattle.std.specs.Prelude.{◌≡◌};
 ghost use Rattle.frame.specs.Refusals.{told};
-ghost use Rattle.cells.specs.Stores.{cell_number, held_at, Granted};
+ghost use Rattle.std.specs.Option.{option_map};
+ghost use Rattle.frame.specs.Numbers.{cell_number, id_number};
+ghost use Rattle.cells.specs.Stores.{free_at, held_in, Granted};
 ghost use Rattle.cells.specs.Masks.{mask_marks, Highest};
 ghost use Rattle.cells.specs.Digits.{length_digits};
 
-use crate::stores::{CELLS, Store};
+use crate::stores::Store;
 use frame::classes::Class;
-use frame::numbers::CellId;
+use frame::numbers::{Cell, CellId};
 use frame::refusals::Refusal;
 
 // Bit c is set where cell c is free.
@@ -17,11 +19,17 @@ pub struct Mask {
 }
 
 impl Mask {
-    // There is such a cell, and it is not free.
-    fn holds(&self, cell: CellId) -> bool
-        ensures { result ≡ held_at (mask_marks self.now) (cell_number cell) }
+    fn is_free(&self, cell: Cell) -> bool
+        ensures { result ≡ free_at (mask_marks self.now) (cell_number cell) }
     {
-        (cell.0 as usize) < CELLS && (self.bits >> cell.0) % 2 == 0
+        (self.bits >> cell.index()) % 2 == 1
+    }
+
+    // The cell of this number, if there is one and it is not free.
+    fn held(&self, cell: CellId) -> Option<Cell>
+        ensures { option_map cell_number result ≡ held_in (mask_marks self.now) (id_number cell) }
+    {
+        Cell::new(cell.0).filter(|cell| !self.is_free(*cell))
     }
 }
 
@@ -34,24 +42,22 @@ impl Store for Mask {
         Mask { bits: u32::MAX }
     }
 
-    fn grant(&mut self) -> Result<CellId, Refusal>
+    fn grant(&mut self) -> Result<Cell, Refusal>
         ensures answer { Granted (mask_marks self.old) (told cell_number result) (mask_marks self.new) }
         ensures order { Highest (mask_marks self.old) (told cell_number result) }
     {
-        if self.bits == 0 {
+        let Some(top) = self.bits.checked_ilog2() else {
             return Err(Refusal::TooFewCells(Class::BestEffort));
-        }
-        let cell = (u32::BITS - 1 - self.bits.leading_zeros()) as u8;
-        self.bits -= 1 << cell;
-        Ok(CellId(cell))
+        };
+        self.bits &= !(1 << top);
+        Ok(Cell::new(top as u8).unwrap())
     }
 
     fn give_back(&mut self, cell: CellId) -> Result<(), Refusal> {
-        if !self.holds(cell) {
+        let Some(held) = self.held(cell) else {
             return Err(Refusal::CellNotHeld(cell));
-        }
-        let bits = self.bits;
-        self.bits = bits + (1 << cell.0);
+        };
+        self.bits |= 1 << held.index();
         Ok(())
     }
 

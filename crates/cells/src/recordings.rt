@@ -1,7 +1,6 @@
 // A layer over any store that writes down which cells were granted. It is for the bench: it shows that two stores
 // grant other cells for the same calls.
-ghost use Rattle.std.specs.Prelude.{◌≡◌, ◌≤◌, length};
-
+use arrayvec::ArrayVec;
 use frame::numbers::CellId;
 
 pub mod methods;
@@ -12,8 +11,5 @@ pub const MOST_RECORDED: usize = 1024;
 #[derive(Drop)]
 pub struct Recording<S> {
     below: S,
-    cells: [CellId; MOST_RECORDED],
-    count: usize,
-    ghost few: { count ≤ 1024 },
-    ghost wide: { length cells ≡ 1024 },
+    cells: ArrayVec<CellId, MOST_RECORDED>,
 }

@@ -1,9 +1,10 @@
 // The store of frame memory cells: what every kind of it means.
 ghost use Rattle.std.specs.Prelude.{◌≡◌, Bool, true, List, length};
+ghost use Rattle.frame.specs.Numbers.{cell_number, id_number};
 ghost use Rattle.frame.specs.Refusals.{told};
-ghost use Rattle.cells.specs.Stores.{all_free, cell_count, cell_number, free_count, given_back, Granted};
+ghost use Rattle.cells.specs.Stores.{all_free, cell_count, free_count, given_back, Granted};
 
-use frame::numbers::CellId;
+use frame::numbers::{Cell, CellId};
 use frame::refusals::Refusal;
 
 // How many cells there are, numbered from 0.
@@ -18,12 +19,12 @@ pub trait Store {
         ensures answer { marks result ≡ all_free };
 
     // Takes out some free cell; which one, the kind says.
-    fn grant(&mut self) -> Result<CellId, Refusal>
+    fn grant(&mut self) -> Result<Cell, Refusal>
         ensures answer { Granted (marks self.old) (told cell_number result) (marks self.new) };
 
     // Puts a held cell in again.
     fn give_back(&mut self, cell: CellId) -> Result<(), Refusal>
-        ensures answer { (told (λ u. u) result, marks self.new) ≡ given_back (marks self.old) (cell_number cell) };
+        ensures answer { (told (λ u. u) result, marks self.new) ≡ given_back (marks self.old) (id_number cell) };
 
     // How many cells are free.
     fn free(&self) -> usize
@@ -38,11 +39,8 @@ pub fn drain<S: Store>(store: &mut S) -> [bool; CELLS]
     ensures state { free_count (S.marks store.new) ≡ 0 }
 {
     let mut came = [false; CELLS];
-    for _turn in 0..CELLS {
-        let Ok(cell) = store.grant() else {
-            return came;
-        };
-        came[cell.0 as usize] = true;
+    while let Ok(cell) = store.grant() {
+        came[cell.index()] = true;
     }
     came
 }
@@ -54,8 +52,5 @@ pub fn self_test<S: Store + Drop>() -> bool
 {
     let mut store = S::fresh();
     let came = drain(&mut store);
-    if came != [true; CELLS] {
-        return false;
-    }
-    store.grant().is_err()
+    came == [true; CELLS] && store.grant().is_err()
 }

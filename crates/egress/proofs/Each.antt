@@ -1,12 +1,15 @@
 -- The ports changed one after the other. Assumes nothing.
 use Rattle.std.proofs.Common.{◌≡◌, ℕ, zero, suc, ◌+◌, ◌*◌, ◌≤◌, min, eqb, ltb, List, [], ◌++◌, length, sym, refl, ap, ◌∙◌, ⊎_elim, add-one, arith, length-append}
 use Rattle.std.proofs.lemmas.Bool.{cases_lt, cases_order, cond_both, cond-false, cond-true, eq-eqb, le-ltb, lt-ltb, ne_eqb}
-use Rattle.buffers.specs.Holdings.{changed, egress}
+use Rattle.buffers.specs.Holdings.{changed, contents, egress, next_number}
 use Rattle.buffers.specs.declared.buffers.Buffers.{Buffers}
+use Rattle.rules.specs.Cells.{OnlyFreed}
 use Rattle.rules.specs.Copies.{Copy, Egress, put}
 use Rattle.rules.specs.Runs.{sum_below}
 use Rattle.rules.specs.Switch.{empty_port, over_ports}
-use Rattle.egress.proofs.Lengths.{queue_few}
+use Rattle.egress.proofs.Contents.{freed_on, none_freed}
+use Rattle.buffers.proofs.Lengths.{queue_few}
+use Rattle.egress.specs.Changes.{ChangesPort}
 use Rattle.egress.specs.Ports.{each_port, turned}
 
 module _ (g : ℕ → Egress → Egress) where
@@ -54,25 +57,35 @@ module _ (g : ℕ → Egress → Egress) where
           cond-false (ltb p 4) (g p (egress d b p)) (egress d b p) (le-ltb p 4 high) ∙ none ∙ sym (alone p high) ∙ ap (g p) (sym none))
           (cases_lt p 4)
 
--- the ports below n have had their turn, and so many copies have ended
-pub record Turned (before after : ℕ → Egress) (k rate depth n late : ℕ) : Type 0 where
-  pub ports : after ≡ each_port (λ p. turned k rate depth) n before
-  pub counted : late ≡ sum_below (λ p. length ((before p).queue k)) n
+-- as many as a queue of the buffers has are at most 32
+pub few_late : (b : Buffers) (d p k : ℕ) {r : ℕ} → r ≡ length ((egress d b p).queue k) → r ≤ 32
+few_late b d p k e = omega (arith, e, queue_few b d p k)
 
-pub turned_none : (ports : ℕ → Egress) (k rate depth : ℕ) → Turned ports ports k rate depth 0 0
-turned_none ports k rate depth = record { ports = each_none (λ p. turned k rate depth) ports; counted = refl }
+-- the ports below n have had their turn, and so many copies have ended; no frame was let in
+pub record Turned (before after : Buffers) (k rate depth n late : ℕ) : Type 0 where
+  pub ports : (d : ℕ) → egress d after ≡ each_port (λ p. turned k rate depth) n (egress d before)
+  pub counted : (d : ℕ) → late ≡ sum_below (λ p. length ((egress d before p).queue k)) n
+  pub number : next_number after ≡ next_number before
+  pub cells : OnlyFreed (contents before) (contents after)
 
-pub turned_on : {before mid after : ℕ → Egress} {k rate depth n late : ℕ} (p r : ℕ) → Turned before mid k rate depth n late → p ≡ n → r ≡ length ((mid p).queue k) → after ≡ changed mid p (turned k rate depth) → Turned before after k rate depth (n + 1) (late + r)
-turned_on {before} {mid} {after} {k} {rate} {depth} {n} {late} p r so_far is ended e =
+pub turned_none : (b : Buffers) (k rate depth : ℕ) → Turned b b k rate depth 0 0
+turned_none b k rate depth = record { ports = λ d. each_none (λ p. turned k rate depth) (egress d b); counted = λ d. refl; number = refl; cells = none_freed _ }
+
+pub turned_on : {before mid after : Buffers} {k rate depth n late : ℕ} (p r : ℕ) → Turned before mid k rate depth n late → p ≡ n → ((d : ℕ) → r ≡ length ((egress d mid p).queue k)) → ChangesPort mid after p (turned k rate depth) → Turned before after k rate depth (n + 1) (late + r)
+turned_on {before} {mid} {after} {k} {rate} {depth} {n} {late} p r so_far is ended turn =
     record {
-      ports = each_on (λ p. turned k rate depth) before mid n so_far.ports after p is e;
-      counted = omega (arith, so_far.counted, ended, ap (λ q. length ((mid q).queue k)) is, ap (λ e. length (e.queue k)) (each_later (λ p. turned k rate depth) before mid n so_far.ports n (omega arith)), ap (sum_below (λ p. length ((before p).queue k))) (add-one n));
+      ports = λ d. each_on (λ p. turned k rate depth) (egress d before) (egress d mid) n (so_far.ports d) (egress d after) p is (turn.state d);
+      counted = λ d.
+          let b : ℕ → Egress = egress d before in
+          omega (arith, so_far.counted d, ended d, ap (λ q. length ((egress d mid q).queue k)) is, ap (λ e. length (e.queue k)) (each_later (λ p. turned k rate depth) b (egress d mid) n (so_far.ports d) n (omega arith)), ap (sum_below (λ p. length ((b p).queue k))) (add-one n));
+      number = turn.number ∙ so_far.number;
+      cells = freed_on so_far.cells turn.cells;
     }
 
-pub turned_all : {before after : ℕ → Egress} {k rate depth n late : ℕ} → Turned before after k rate depth n late → n ≡ 4 → (late ≡ length (over_ports (λ p. (before p).queue k))) × (after ≡ each_port (λ p. turned k rate depth) 4 before)
-turned_all {before} {after} {k} {rate} {depth} {n} {late} done four =
-    let q : ℕ → List Copy = λ p. (before p).queue k in
-    (omega (arith, done.counted, ap (sum_below (λ p. length ((before p).queue k))) four, length-append (q 0) (q 1 ++ (q 2 ++ q 3)), length-append (q 1) (q 2 ++ q 3), length-append (q 2) (q 3)), done.ports ∙ (λ i. each_port (λ p. turned k rate depth) (four i) before))
+pub turned_all : {before after : Buffers} {k rate depth n late : ℕ} → Turned before after k rate depth n late → n ≡ 4 → (d : ℕ) → (late ≡ length (over_ports (λ p. (egress d before p).queue k))) × (egress d after ≡ each_port (λ p. turned k rate depth) 4 (egress d before))
+turned_all {before} {after} {k} {rate} {depth} {n} {late} done four d =
+    let q : ℕ → List Copy = λ p. (egress d before p).queue k in
+    (omega (arith, done.counted d, ap (sum_below (λ p. length (q p))) four, length-append (q 0) (q 1 ++ (q 2 ++ q 3)), length-append (q 1) (q 2 ++ q 3), length-append (q 2) (q 3)), done.ports d ∙ (λ i. each_port (λ p. turned k rate depth) (four i) (egress d before)))
 
 pub late_few : (b : Buffers) (d k n : ℕ) → sum_below (λ p. length ((egress d b p).queue k)) n ≤ 32 * n
 late_few b d k zero = omega arith

@@ -1,13 +1,14 @@
 -- The copies of a frame laid at one port after the other. Assumes nothing.
 use Rattle.std.proofs.Common.{◌≡◌, ℕ, ◌+◌, ◌/◌, ◌%◌, ◌^◌, ◌<◌, ◌≤◌, true, false, cond, eqb, sym, refl, ap, ◌∙◌, ⊎_elim, arith, pow_mono}
 use native.Mathlib.Nat.{div-eq_of_lt}
-use Rattle.std.proofs.lemmas.Bool.{cases_Bool, cases_eq, cond_both, eqb-false, eqb-true}
+use Rattle.std.proofs.lemmas.Bool.{cases_Bool, cases_eq, cond_both, cond-false, cond-true, eqb-false, eqb-true}
 use Rattle.buffers.proofs.Soundness.{put_other, put_same}
-use Rattle.buffers.specs.Holdings.{changed, copies_in, egress, filled, frame_at, free, next_number}
+use Rattle.buffers.specs.Holdings.{FramesStay, changed, copies_in, egress, filled, frame_at, free, next_number}
 use Rattle.buffers.specs.declared.buffers.Buffers.{Buffers}
 use Rattle.frame.specs.Numbers.{in_set}
-use Rattle.rules.specs.Copies.{put}
+use Rattle.rules.specs.Copies.{laid, put}
 use Rattle.egress.proofs.Each.{each_none, each_on}
+use Rattle.egress.proofs.Ports.{put_own}
 use Rattle.egress.specs.Ports.{each_port, laid_in}
 
 -- the ports below n that are in the set have a copy of the frame in the cell
@@ -36,20 +37,37 @@ laying_none before set k cell none =
 pub record LaidAt (mid after : Buffers) (set k cell q : ℕ) : Type 0 where
   pub ports : (d : ℕ) → egress d after ≡ changed (egress d mid) q (laid_in set k (frame_at mid cell) q)
   pub cells : free after ≡ cond (in_set set q) (put (free mid) cell false) (free mid)
-  pub number : next_number after ≡ next_number mid
-  pub frames : (frame_at after ≡ frame_at mid) × (filled after ≡ filled mid)
+  pub kept : FramesStay mid after
   pub copies : (p c : ℕ) → (p ≡ q → ⊥) → copies_in after p c ≡ copies_in mid p c
+
+-- a port of the set has a copy laid at it
+pub put_in : {mid after : Buffers} {set k cell q : ℕ} → in_set set q ≡ true → ((d : ℕ) → egress d after ≡ changed (egress d mid) q (λ e. laid e k (frame_at mid cell))) → free after ≡ put (free mid) cell false → FramesStay mid after → ((p c : ℕ) → (p ≡ q → ⊥) → copies_in after p c ≡ copies_in mid p c) → LaidAt mid after set k cell q
+put_in {mid} {after} {set} {k} {cell} {q} within ports cells kept copies = record {
+  ports = λ d. ports d ∙ (λ i. put (egress d mid) q (sym (cond-true (in_set set q) (laid (egress d mid q) k (frame_at mid cell)) (egress d mid q) within) i));
+  cells = cells ∙ sym (cond-true (in_set set q) _ _ within);
+  kept = kept;
+  copies = copies;
+}
+
+-- any other port is left as it is
+pub left_out : {set k cell q : ℕ} (mid : Buffers) → in_set set q ≡ false → LaidAt mid mid set k cell q
+left_out {set} {k} {cell} {q} mid out = record {
+  ports = λ d. put_own (egress d mid) q ∙ (λ i. put (egress d mid) q (sym (cond-false (in_set set q) (laid (egress d mid q) k (frame_at mid cell)) (egress d mid q) out) i));
+  cells = sym (cond-false (in_set set q) _ _ out);
+  kept = record { number = refl; frames = refl; filled_are = refl };
+  copies = λ p c other. refl;
+}
 
 pub laying_on : {before mid after : Buffers} {set k cell n : ℕ} (q : ℕ) → Laying before mid set k cell n → q ≡ n → LaidAt mid after set k cell q → Laying before after set k cell (n + 1)
 laying_on {before} {mid} {after} {set} {k} {cell} {n} q so_far is now =
     record {
       ports = λ d. each_on (laid_in set k (frame_at before cell)) (egress d before) (egress d mid) n (so_far.ports d) (egress d after) q is (now.ports d ∙ (λ i. changed (egress d mid) q (laid_in set k (so_far.frames i cell) q)));
-      frames = now.frames.0 ∙ so_far.frames;
-      filled = now.frames.1 ∙ so_far.filled;
+      frames = now.kept.frames ∙ so_far.frames;
+      filled = now.kept.filled_are ∙ so_far.filled;
       copies = λ p past low. now.copies p cell (λ e. omega arith) ∙ so_far.copies p (omega arith) low;
       others = λ c other. ap (λ f. f c) now.cells ∙ cond_both (in_set set q) (put (free mid) cell false) (free mid) (λ f. f c ≡ free before c) (λ t. put_other (free mid) cell false c other ∙ so_far.others c other) (λ t. so_far.others c other);
       used = λ p past inside. ap (λ f. f cell) now.cells ∙ cond_both (in_set set q) (put (free mid) cell false) (free mid) (λ f. f cell ≡ false) (λ t. put_same (free mid) cell false cell refl) (λ t. ⊎_elim (λ same. absurd (both t inside same)) (λ other. so_far.used p (omega (arith, other)) inside) (cases_eq p q));
-      number = now.number ∙ so_far.number;
+      number = now.kept.number ∙ so_far.number;
     }
   where
     both : {p : ℕ} → in_set set q ≡ false → in_set set p ≡ true → p ≡ q → ⊥

@@ -1,8 +1,9 @@
 pub mod Cells
 pub mod Contents
+pub mod Changes
 pub mod Found
-pub mod Lengths
 pub mod Ports
+pub mod Cuts
 pub mod Emptied
 pub mod Taken
 pub mod Each

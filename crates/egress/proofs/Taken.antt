@@ -1,12 +1,16 @@
 -- How a copy is taken at a port, step by step. Assumes nothing.
-use Rattle.std.proofs.Common.{◌≡◌, ℕ, ◌+◌, ◌-◌, ◌≤◌, Bool, true, false, ltb, List, [], ◌∷◌, length, drop, is_some, Some, None, Option, sym, refl, ap, ◌∙◌, add-one, arith}
+use Rattle.std.proofs.Common.{◌≡◌, ℕ, ◌+◌, ◌-◌, ◌≤◌, Bool, true, false, ltb, List, [], ◌∷◌, length, drop, is_some, Some, None, Option, sym, refl, ap, ◌∙◌, arith}
 use Rattle.std.proofs.lemmas.Bool.{cond_both, cond-false, cond-true, false≢true, ltb-false}
 use Rattle.std.specs.Option.{option_map}
-use Rattle.buffers.specs.Holdings.{changed, first_out}
-use Rattle.buffers.specs.Queues.{first_of, rest_of}
+use Rattle.buffers.specs.Holdings.{egress, first_out}
+use Rattle.cells.specs.Fifos.{first_of, rest_of}
 use Rattle.buffers.specs.Sent.{copy_sent}
+use Rattle.buffers.specs.declared.buffers.Buffers.{Buffers}
 use Rattle.rules.specs.Copies.{Copy, Egress, affordable, cost, put, take_best_effort, take_paid, take_sending, too_dear, with_out, with_queue, with_tokens}
-use Rattle.egress.proofs.Ports.{changed_twice, put_here, put_own, put_put, rest_drop}
+use Rattle.egress.proofs.Changes.{changed_so, changed_then, port_after}
+use Rattle.egress.proofs.Cuts.{rest_drop}
+use Rattle.egress.proofs.Ports.{put_own, put_put}
+use Rattle.egress.specs.Changes.{ChangesPort}
 use Rattle.egress.specs.Takings.{is_dear, pays, shows, unburdened}
 
 -- a queue that begins with a copy that costs too much
@@ -30,15 +34,12 @@ none_dear : (t : ℕ) (cs : List Copy) → is_dear t cs ≡ false → (length (t
 none_dear t [] cheap = (refl, refl)
 none_dear t (c ∷ cs) cheap = (ap length (cond-false (ltb t (cost c)) (c ∷ too_dear t cs) [] cheap), cond-false (ltb t (cost c)) (affordable t cs) (c ∷ cs) cheap)
 
-one_gone : (n : ℕ) (cs : List Copy) → rest_of (drop n cs) ≡ drop (n + 1) cs
-one_gone n cs = rest_drop n cs ∙ ap (λ m. drop m cs) (sym (add-one n))
-
 pub dear_on : {t n : ℕ} {cs : List Copy} → Dear t n cs → is_dear t (drop n cs) ≡ true → Dear t (n + 1) cs
 dear_on {t} {n} {cs} so_far dear =
     let one = one_dear t (drop n cs) dear in
     record {
-      counted = omega (arith, so_far.counted, one.0, ap (λ r. length (too_dear t r)) (one_gone n cs));
-      rest = so_far.rest ∙ one.1 ∙ ap (affordable t) (one_gone n cs);
+      counted = omega (arith, so_far.counted, one.0, ap (λ r. length (too_dear t r)) (rest_drop n cs));
+      rest = so_far.rest ∙ one.1 ∙ ap (affordable t) (rest_drop n cs);
     }
 
 pub dear_all : {t n : ℕ} {cs : List Copy} → Dear t n cs → is_dear t (drop n cs) ≡ false → (n ≡ length (too_dear t cs)) × (drop n cs ≡ affordable t cs)
@@ -79,10 +80,6 @@ nothing_out k e empty none =
     (λ i. with_out (with_queue e k (rest_of (empty i))) (first_of (empty i)))
     ∙ (λ i. record { queue = (ap (put e.queue k) (sym empty) ∙ sym (put_own e.queue k)) i; tokens = e.tokens; out = sym none i })
 
-pub unmoved : (before after : ℕ → Egress) (p k : ℕ) → after ≡ changed before p (first_out k) → None ≡ option_map copy_sent (first_of ((before p).queue k)) → (before p).out ≡ None → after ≡ before
-unmoved before after p k is empty none =
-    is ∙ (λ i. put before p (nothing_out k (before p) (none_first ((before p).queue k) empty) none i)) ∙ sym (put_own before p)
-
 -- the queue that is sent in this slot
 module _ (k : ℕ) (open2 open3 : Bool) (e : Egress) where
   pub sent_first : (cs : List Copy) (x : ℕ × ℕ) → Some x ≡ option_map copy_sent (first_of cs) → ((Some x, 0) ≡ shows (take_sending k open2 open3 e cs)) × (with_out (with_queue e k (rest_of cs)) (first_of cs) ≡ (take_sending k open2 open3 e cs).left)
@@ -104,19 +101,20 @@ module _ (open3 : Bool) (e : Egress) (n : ℕ) where
   )
 
 -- the copies that cost too much are gone, and then the first of the others has paid, if there is one
-module _ (before : ℕ → Egress) {mid after : ℕ → Egress} (p : ℕ) (gone : mid ≡ changed before p unburdened) (paid : after ≡ changed mid p (λ e. pays e (e.queue 2))) where
-  pub left_there : (mid p).queue 2 ≡ affordable (before p).tokens ((before p).queue 2)
-  left_there = ap (λ f. (f p).queue 2) gone ∙ ap (λ e. e.queue 2) (put_here before p (unburdened (before p)))
+module _ {before mid after : Buffers} {p : ℕ} (gone : ChangesPort before mid p unburdened) (paid : ChangesPort mid after p (λ e. pays e (e.queue 2))) where
+  pub left_there : (d : ℕ) → (egress d mid p).queue 2 ≡ affordable (egress d before p).tokens ((egress d before p).queue 2)
+  left_there d = ap (λ e. e.queue 2) (port_after gone d)
 
-  pub both_paid : after ≡ changed before p (λ e. pays (unburdened e) (affordable e.tokens (e.queue 2)))
-  both_paid = paid ∙ (λ i. changed (gone i) p (λ e. pays e (e.queue 2))) ∙ changed_twice before p unburdened (λ e. pays e (e.queue 2))
+  pub both_paid : ChangesPort before after p (λ e. pays (unburdened e) (affordable e.tokens (e.queue 2)))
+  both_paid = changed_so (changed_then gone paid) (λ d. refl)
 
-  -- there was none
-  pub all_dear : None ≡ option_map copy_sent (first_of ((mid p).queue 2)) → affordable (before p).tokens ((before p).queue 2) ≡ []
-  all_dear none = sym left_there ∙ none_first ((mid p).queue 2) none
+  module _ (none : (d : ℕ) → None ≡ option_map copy_sent (first_of ((egress d mid p).queue 2))) where
+    -- there was none
+    pub all_dear : (d : ℕ) → affordable (egress d before p).tokens ((egress d before p).queue 2) ≡ []
+    all_dear d = sym (left_there d) ∙ none_first ((egress d mid p).queue 2) (none d)
 
-  pub none_paid : None ≡ option_map copy_sent (first_of ((mid p).queue 2)) → after ≡ changed before p (λ e. with_queue e 2 [])
-  none_paid none = both_paid ∙ (λ i. put before p (pays (with_queue (before p) 2 (all_dear none i)) (all_dear none i)))
+    pub none_paid : ChangesPort before after p (λ e. with_queue e 2 [])
+    none_paid = changed_so both_paid (λ d i. pays (with_queue (egress d before p) 2 (all_dear d i)) (all_dear d i))
 
 pub mapped_twice : {A B C : Type 0} (f : A → B) (g : B → C) (o : Option A) → option_map g (option_map f o) ≡ option_map (λ x. g (f x)) o
 mapped_twice f g None = refl

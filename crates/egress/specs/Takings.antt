@@ -4,10 +4,11 @@ use Rattle.std.specs.Option.{option_map}
 use Rattle.buffers.specs.Sent.{copy_sent, sent}
 use Rattle.rules.specs.Copies as definition
 use Rattle.rules.specs.Copies.{Copy, Egress, affordable, cost, with_out, with_queue, with_tokens}
+use Rattle.buffers.specs.declared.buffers.reads.Sent.{Sent}
 use Rattle.egress.specs.declared.takings.Taking.{Taking}
 
 -- number and length of the copy that was taken, and how many ended as overdrawn
-abbrev pub seen : Taking → Option (ℕ × ℕ) × ℕ
+abbrev pub seen : Taking Sent → Option (ℕ × ℕ) × ℕ
 seen t = (option_map sent t.taken, t.overdrawn)
 
 abbrev pub shows : definition.Taking → Option (ℕ × ℕ) × ℕ

@@ -3,11 +3,9 @@
 #![tactic(auto)]
 
 pub mod layings;
+pub mod pools;
 pub mod queues;
 pub mod releases;
 pub mod sendings;
 pub mod slots;
 pub mod takings;
-
-// How many ports a switch has.
-pub const PORTS: u8 = 4;

@@ -7,26 +7,13 @@ ghost use Rattle.rules.specs.Copies.{queue_for};
 use frame::classes::Class;
 use frame::numbers::Queue;
 
-// The queue whose copies are paid for: clock and reserved frames.
-pub fn paid_queue() -> Queue
-    ensures { queue_number result ≡ 2 }
-{
-    Queue::new(2).unwrap()
-}
-
-pub fn best_effort_queue() -> Queue
-    ensures { queue_number result ≡ 3 }
-{
-    Queue::new(3).unwrap()
-}
-
 // The queue for a class, in a slot in which this one fills.
 pub fn queue_of(class: Class, fill: Queue) -> Queue
     ensures { queue_number result ≡ queue_for (queue_number fill) (class_number class) }
 {
     match class {
         Class::TimeSensitive => fill,
-        Class::BestEffort => best_effort_queue(),
-        Class::Clock | Class::Reserved => paid_queue(),
+        Class::BestEffort => Queue::BestEffort,
+        Class::Clock | Class::Reserved => Queue::Paid,
     }
 }

@@ -18,15 +18,11 @@ pub struct Sending {
 pub fn find_sending(buffers: &Buffers, port: u8, number: FrameNumber) -> Result<Sending, Refusal>
     ensures { (d : ℕ) → told sending result ≡ sending_at (egress d buffers.now) port number.0 }
 {
-    let Ok(place) = Port::new(port) else {
-        return Err(Refusal::NotOut(port));
-    };
-    let Some(sent) = buffers.out(place) else {
-        return Err(Refusal::NotOut(port));
-    };
-    if sent.number != number {
-        return Err(Refusal::NotOut(port));
-    }
+    let place = Port::try_from(port).map_err(|_| Refusal::NotOut(port))?;
+    let sent = buffers
+        .out(place)
+        .filter(|sent| sent.number == number)
+        .ok_or(Refusal::NotOut(port))?;
     Ok(Sending {
         port: place,
         length: sent.length,

@@ -1,76 +1,58 @@
 // The turn of a slot at the ports.
 ghost use Rattle.std.specs.Prelude.{◌≡◌, ℕ, length};
-ghost use Rattle.buffers.specs.Holdings.{changed, contents, egress, free, next_number};
+ghost use Rattle.buffers.specs.Holdings.{contents, egress, next_number};
 ghost use Rattle.frame.specs.Numbers.{port_number, queue_number};
 ghost use Rattle.rules.specs.Cells.{OnlyFreed};
 ghost use Rattle.rules.specs.Copies.{refilled};
 ghost use Rattle.rules.specs.Switch.{over_ports};
-ghost use Rattle.egress.specs.Agreements.{Agree};
+ghost use Rattle.egress.specs.Changes.{ChangesPort};
 ghost use Rattle.egress.specs.Ports.{each_port, turned};
 
-use crate::PORTS;
-use crate::releases::end_queue;
-use buffers::buffers::Buffers;
+use crate::pools::Pool;
 use cells::stores::Store;
 use frame::numbers::{Port, Queue};
 
-// Turns every port, and answers how many copies ended.
-pub fn turn_ports<S: Store>(
-    store: &mut S,
-    buffers: &mut Buffers,
-    queue: Queue,
-    rate: u16,
-    depth: u16,
-) -> u32
-    requires { Agree (S.marks store.old) (free buffers.old) }
-    ensures answer { (d : ℕ) → result ≡ length (over_ports (λ p. (egress d buffers.old p).queue (queue_number queue))) }
-    ensures state { (d : ℕ) → egress d buffers.new ≡ each_port (λ p. turned (queue_number queue) rate depth) 4 (egress d buffers.old) }
-    ensures number { next_number buffers.new ≡ next_number buffers.old }
-    ensures sound { Agree (S.marks store.new) (free buffers.new) }
-    ensures contents { OnlyFreed (contents buffers.old) (contents buffers.new) }
-{
-    let mut late = 0;
-    for number in 0..PORTS {
-        late += turn_port(
-            store,
-            buffers,
-            Port::new(number).unwrap(),
-            queue,
-            rate,
-            depth,
-        );
-    }
-    late
+// What the tokens of each port rise by in a slot, and up to.
+#[derive(Clone, Copy)]
+pub struct Bucket {
+    pub rate: u16,
+    pub depth: u16,
 }
 
-// Ends what waits in a queue of a port, and refills its tokens.
-fn turn_port<S: Store>(
-    store: &mut S,
-    buffers: &mut Buffers,
-    port: Port,
-    queue: Queue,
-    rate: u16,
-    depth: u16,
-) -> u32
-    requires { Agree (S.marks store.old) (free buffers.old) }
-    ensures answer { (d : ℕ) → result ≡ length ((egress d buffers.old (port_number port)).queue (queue_number queue)) }
-    ensures state { (d : ℕ) → egress d buffers.new ≡ changed (egress d buffers.old) (port_number port) (turned (queue_number queue) rate depth) }
-    ensures number { next_number buffers.new ≡ next_number buffers.old }
-    ensures sound { Agree (S.marks store.new) (free buffers.new) }
-    ensures contents { OnlyFreed (contents buffers.old) (contents buffers.new) }
-{
-    let late = end_queue(store, buffers, port, queue);
-    buffers.set_tokens(port, refill(buffers.tokens(port), rate, depth));
-    late
+impl Bucket {
+    // The tokens after a slot.
+    fn refill(self, tokens: u32) -> u32
+        ensures { result ≡ refilled self.rate self.depth tokens }
+    {
+        tokens
+            .saturating_add(u32::from(self.rate))
+            .min(u32::from(self.depth))
+    }
 }
 
-// The tokens after a slot, with no sum above the depth.
-fn refill(tokens: u32, rate: u16, depth: u16) -> u32
-    ensures { result ≡ refilled rate depth tokens }
-{
-    let depth = u32::from(depth);
-    if tokens >= depth {
-        return depth;
+impl<S: Store> Pool<S> {
+    // Turns every port, and answers how many copies ended.
+    pub fn turn_ports(&mut self, queue: Queue, bucket: Bucket) -> u32
+        ensures answer { (d : ℕ) → result ≡ length (over_ports (λ p. (egress d self.old.buffers p).queue (queue_number queue))) }
+        ensures state { (d : ℕ) → egress d self.new.buffers ≡ each_port (λ p. turned (queue_number queue) bucket.rate bucket.depth) 4 (egress d self.old.buffers) }
+        ensures number { next_number self.new.buffers ≡ next_number self.old.buffers }
+        ensures contents { OnlyFreed (contents self.old.buffers) (contents self.new.buffers) }
+    {
+        let mut late = 0;
+        for port in Port::ALL {
+            late += self.turn_port(port, queue, bucket);
+        }
+        late
     }
-    depth.min(tokens + u32::from(rate))
+
+    // Ends what waits in a queue of a port, and refills its tokens.
+    fn turn_port(&mut self, port: Port, queue: Queue, bucket: Bucket) -> u32
+        ensures answer { (d : ℕ) → result ≡ length ((egress d self.old.buffers (port_number port)).queue (queue_number queue)) }
+        ensures change { ChangesPort self.old.buffers self.new.buffers (port_number port) (turned (queue_number queue) bucket.rate bucket.depth) }
+    {
+        let late = self.end_queue(port, queue);
+        let tokens = bucket.refill(self.buffers.tokens(port));
+        self.buffers.set_tokens(port, tokens);
+        late
+    }
 }

@@ -5,7 +5,7 @@
 use crate::directions::Directions;
 use crate::lines::Line;
 use inputs::read_input;
-use records::cursors::{Cursor, LONGEST_INPUT};
+use records::cursors::Cursor;
 use records::kinds::Record;
 use std::alloc::Global;
 use std::fmt;
@@ -15,15 +15,14 @@ use std::io::Write as Output;
 mod directions;
 mod lines;
 
-// The most records that an input can hold, each of at least 4 bytes, and the turn that finds its end.
-const MOST_RECORDS: usize = LONGEST_INPUT / 4 + 1;
-
 // The text of all lines: one for each record, and a last one that says how many there were or where the input is broken.
 fn explain(heap: Global, input: &[u8]) -> Result<String, fmt::Error> {
     let mut text = String::new(heap);
     let mut cursor = Cursor::new(input);
-    let mut directions = Directions::None;
-    for number in 1..=MOST_RECORDS {
+    let mut directions = None;
+    let mut count = 0;
+    loop {
+        let number = count + 1;
         let place = cursor.place();
         match cursor.next() {
             Ok(Some(record)) => {
@@ -34,27 +33,22 @@ fn explain(heap: Global, input: &[u8]) -> Result<String, fmt::Error> {
                     number,
                     place,
                     record,
-                    directions: &directions,
+                    directions: directions.as_ref(),
                 };
                 writeln!(text, "{line}")?;
             }
             Ok(None) => {
-                let count = number - 1;
                 writeln!(text, "{count} records")?;
-                break;
+                return Ok(text);
             }
             Err(refusal) => {
-                writeln!(
-                    text,
-                    "{number} fault {} {}",
-                    refusal.number(),
-                    refusal.value()
-                )?;
-                break;
+                let (reason, place) = (refusal.number(), refusal.value());
+                writeln!(text, "{number} fault {reason} {place}")?;
+                return Ok(text);
             }
         }
+        count = number;
     }
-    Ok(text)
 }
 
 fn main(rt: HostRuntime) -> anyhow::Result<()> {

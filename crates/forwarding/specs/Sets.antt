@@ -1,32 +1,19 @@
 -- Proper ways. What is asked of sets of the four ports is computed for each of them. Assumes nothing.
-use Rattle.std.specs.Prelude.{◌≡◌, ℕ, zero, suc, ◌<◌, Bool, true, false, not, ◌&&◌, ◌||◌, IfSome, Some, None, Option, ◌==◌, nat_lt, refl}
-use Rattle.std.proofs.Common.{ap, ◌∙◌, ⊎_elim, arith}
-use Rattle.std.proofs.lemmas.Bool.{and_parts, both_ways, cases_eq, cond_both, ltb-true, not-true, or_cases}
+use Rattle.std.specs.Prelude.{◌≡◌, ℕ, ◌<◌, Bool, true, false, not, ◌&&◌, ◌||◌, IfSome, Some, None, Option, ◌==◌, nat_lt, refl}
+use Rattle.std.proofs.lemmas.Bool.{agree_below, agree_below_at, and_parts, cond_both, ltb-true, not-true}
 use Rattle.frame.specs.Numbers.{in_set, others, with_port, without}
 use Rattle.forwarding.specs.Ways.{Proper, Way, to, unknown, tap, formed, tapped}
 
--- the test holds of each number below n
-all_below : ℕ → (ℕ → Bool) → Bool
-all_below zero test = true
-all_below (suc n) test = test n && all_below n test
-
-at_each : (n : ℕ) (test : ℕ → Bool) → all_below n test ≡ true → (k : ℕ) → k < n → test k ≡ true
-unfolding all_below
-at_each zero test e k h = absurd (omega arith)
-at_each (suc n) test e k h =
-    let parts = and_parts (test n) (all_below n test) e in
-    ⊎_elim (λ is. ap test is ∙ parts.0) (λ other. at_each n test parts.1 k (omega arith)) (cases_eq k n)
-
--- and a test of a set and a port holds of them all
-at_all : (test : ℕ → ℕ → Bool) → all_below 16 (λ s. all_below 4 (test s)) ≡ true → (s p : ℕ) → s < 16 → p < 4 → test s p ≡ true
-at_all test e s p hs hp = at_each 4 (test s) (at_each 16 (λ s. all_below 4 (test s)) e s hs) p hp
+-- a test of a set and a port that holds of each of them holds of them all
+of_all : (test : ℕ → ℕ → Bool) → agree_below (λ s. agree_below (test s) (λ _. true) 4) (λ _. true) 16 ≡ true → (s p : ℕ) → s < 16 → p < 4 → test s p ≡ true
+of_all test e s p hs hp = agree_below_at (test s) (λ _. true) 4 p (agree_below_at (λ s. agree_below (test s) (λ _. true) 4) (λ _. true) 16 s e hs) hp
 
 -- the test whether a set is a proper way
-proper : ℕ → ℕ → Bool
+abbrev proper : ℕ → ℕ → Bool
 proper p s = nat_lt 0 s && (nat_lt s 16 && not (in_set s p))
 
+-- a set that passes it is one
 proper_from : (p s : ℕ) → proper p s ≡ true → Proper p (to s)
-unfolding proper
 proper_from p s e =
     let some = and_parts (nat_lt 0 s) _ e in
     let rest = and_parts (nat_lt s 16) _ some.1 in
@@ -34,11 +21,11 @@ proper_from p s e =
 
 -- one of two tests holds, and it is not the first
 second : (a b : Bool) → (a || b) ≡ true → a ≡ false → b ≡ true
-second a b e no-a = ⊎_elim (λ yes-a. absurd (both_ways a no-a yes-a)) (λ b. b) (or_cases a b e)
+second a b e no-a = rw no-a at e
 
+-- a set with a port taken out is empty or proper for it
 out : (s p : ℕ) → s < 16 → p < 4 → (without s p == 0 || proper p (without s p)) ≡ true
-unfolding all_below proper
-out = at_all (λ s p. (without s p == 0) || proper p (without s p)) refl
+out = of_all (λ s p. (without s p == 0) || proper p (without s p)) refl
 
 -- the answer that a row's set gives is proper
 pub formed_proper : (row : Option ℕ) (p : ℕ) → p < 4 → IfSome row (λ s. s < 16) → Proper p (formed row p)
@@ -48,12 +35,11 @@ formed_proper (Some s) p hp hs =
 
 -- the answer to all other ports is proper
 pub others_proper : (p : ℕ) → p < 4 → Proper p (to (others p))
-unfolding all_below proper
-others_proper p hp = proper_from p _ (at_each 4 (λ p. proper p (others p)) refl p hp)
+others_proper p hp = proper_from p _ (agree_below_at (λ p. proper p (others p)) (λ _. true) 4 p refl hp)
 
+-- a set without the port where the frame came in, with port 3 put in, is proper for it, unless that is port 3
 joined : (s p : ℕ) → s < 16 → p < 4 → (p == 3 || (in_set s p || proper p (with_port (without s 3) 3))) ≡ true
-unfolding all_below proper
-joined = at_all (λ s p. (p == 3) || (in_set s p || proper p (with_port (without s 3) 3))) refl
+joined = of_all (λ s p. (p == 3) || (in_set s p || proper p (with_port (without s 3) 3))) refl
 
 -- what the tap layer makes of a proper way is proper
 pub tapped_proper : (w : Way) (p : ℕ) → p < 4 → Proper p w → Proper p (tapped w p)

@@ -7,7 +7,7 @@ pub mod methods;
 // How many flows there are.
 pub const FLOWS: usize = 16384;
 
-// A byte for each flow.
+// A byte for each flow. A plain array, behind methods of its own, is the project's rule for memory of this size.
 #[derive(Drop)]
 struct FlowBytes {
     bytes: [u8; FLOWS],

@@ -10,16 +10,17 @@ use frame::numbers::{Address, Port, PortSet};
 // The largest set of ports.
 pub const ALL_PORTS: u8 = 15;
 
-// Where a frame goes.
+// Why a frame goes nowhere.
 #[derive(Clone, Copy, PartialEq, Eq)]
-pub enum Route {
-    // To these ports.
-    Ports(PortSet),
+pub enum NoRoute {
     // No port is known for it.
     Unknown,
     // It came in at the tap port.
     Tap,
 }
+
+// The ports to which a frame goes.
+pub type Route = Result<PortSet, NoRoute>;
 
 pub trait Forwarding {
     // Where a frame to this destination goes that came in at this port.
@@ -36,14 +37,9 @@ pub trait Forwarding {
 pub fn form(row: Option<PortSet>, input: Port) -> Route
     ensures { way result ≡ formed (option_map set_bits row) (port_number input) }
 {
-    let Some(set) = row else {
-        return Route::Unknown;
-    };
-    let rest = set.without(input);
-    if rest.is_empty() {
-        return Route::Unknown;
-    }
-    Route::Ports(rest)
+    row.map(|set| set.without(input))
+        .filter(|rest| !rest.is_empty())
+        .ok_or(NoRoute::Unknown)
 }
 
 // Whether a frame that came in at one port would leave at another.
@@ -55,8 +51,7 @@ pub fn reaches<F: Forwarding>(
 ) -> bool
     ensures { result ≡ leaves_at (F.forwards forwarding.now (address_bits destination) (port_number input)) (port_number output) }
 {
-    match forwarding.route(destination, input) {
-        Route::Ports(set) => set.has(output),
-        Route::Unknown | Route::Tap => false,
-    }
+    forwarding
+        .route(destination, input)
+        .is_ok_and(|set| set.has(output))
 }

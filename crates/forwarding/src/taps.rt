@@ -5,7 +5,7 @@ ghost use Rattle.forwarding.specs.Ways.{tapped, tapped_set};
 ghost use Rattle.forwarding.specs.Routes.{way};
 ghost use Rattle.forwarding.specs.Sets.{tapped_proper};
 
-use crate::routes::{Forwarding, Route};
+use crate::routes::{Forwarding, NoRoute, Route, form};
 use frame::numbers::{Address, Port, PortSet};
 
 // The port at which a monitor listens.
@@ -24,13 +24,9 @@ impl<F: Forwarding> Forwarding for Tapped<F> {
 
     fn route(&self, destination: Address, input: Port) -> Route {
         if input.number() == TAP_PORT {
-            return Route::Tap;
+            return Err(NoRoute::Tap);
         }
-        match self.below.route(destination, input) {
-            Route::Ports(set) => tap_set(set),
-            Route::Unknown => Route::Unknown,
-            Route::Tap => Route::Tap,
-        }
+        tap_set(self.below.route(destination, input)?)
     }
 }
 
@@ -38,10 +34,7 @@ impl<F: Forwarding> Forwarding for Tapped<F> {
 fn tap_set(set: PortSet) -> Route
     ensures { way result ≡ tapped_set (set_bits set) }
 {
-    let tap = Port::new(TAP_PORT).unwrap();
-    let rest = set.without(tap);
-    if rest.is_empty() {
-        return Route::Unknown;
-    }
-    Route::Ports(rest.with(tap))
+    let tap = Port::ALL[usize::from(TAP_PORT)];
+    let rest = form(Some(set), tap)?;
+    Ok(rest.with(tap))
 }

@@ -10,24 +10,15 @@ use std::test::Fail;
 // A station whose address is 2^31, of flow 1, is known behind port 1.
 const STATION: [u8; 6] = [0, 0, 0x80, 0, 0, 0];
 
-fn port(number: u8) -> Result<Port, Fail> {
-    match Port::new(number) {
-        Ok(port) => Ok(port),
-        Err(_) => Err(Fail::new("no such port")),
-    }
-}
-
 #[test]
 fn each_kind_reaches_the_station(rt: HostRuntime) -> Result<(), Fail> {
-    let station = Address::from_bytes(STATION);
-    let (input, output, tap) = (port(0)?, port(1)?, port(3)?);
+    let station = Address::from(STATION);
+    let [input, output, _, tap] = Port::ALL;
     let row = Row {
         address: station,
         ports: 2,
     };
-    let Ok(table) = AddressTable::load(&[row]) else {
-        return Err(Fail::new("the row is refused"));
-    };
+    let table = AddressTable::load(&[row]).map_err(|_| "the row is refused")?;
     let mut flows = FlowTable::new();
     let is_set = flows.set_flow(1, 2).is_ok();
     let by_flow = reaches(&flows, station, input, output);
@@ -40,14 +31,12 @@ fn each_kind_reaches_the_station(rt: HostRuntime) -> Result<(), Fail> {
 #[test]
 fn a_thirteenth_row_is_refused(rt: HostRuntime) -> Result<(), Fail> {
     let row = Row {
-        address: Address::from_bytes(STATION),
+        address: Address::from(STATION),
         ports: 2,
     };
-    match AddressTable::load(&[row; 13]) {
-        Ok(_) => Err(Fail::new("thirteen rows are held")),
-        Err(refusal) => {
-            assert_eq!(rt; (refusal.number(), refusal.value()), (10, 12));
-            Ok(())
-        },
-    }
+    let refusal = AddressTable::load(&[row; 13])
+        .err()
+        .ok_or("thirteen rows are held")?;
+    assert_eq!(rt; (refusal.number(), refusal.value()), (10, 12));
+    Ok(())
 }

@@ -1,5 +1,6 @@
 -- The four ports, and sets of them. Assumes nothing.
-use Rattle.std.proofs.Common.{◌≡◌, ℕ, zero, suc, ◌+◌, ◌^◌, ◌<◌, ◌≤◌, true, false, arith}
+use Rattle.std.proofs.Common.{◌≡◌, ℕ, zero, suc, ◌+◌, ◌^◌, ◌<◌, ◌≤◌, true, false, List, [], ◌∷◌, map, get_or, refl, sym, ap, ◌∙◌, arith}
+use Rattle.std.proofs.Math.ListN.{get_or-map}
 use Rattle.std.proofs.lemmas.Bool.{eqb-true, eqb-false}
 use Rattle.frame.specs.Numbers.{in_set}
 
@@ -21,3 +22,12 @@ weight_in s = each_of_four (λ p. in_set s p ≡ true → 2 ^ p ≤ s) (λ e. om
 -- and has room for those that it lacks
 pub weight_out : (s p : ℕ) → s < 16 → p < 4 → in_set s p ≡ false → s + 2 ^ p < 16
 weight_out s p h = each_of_four (λ p. in_set s p ≡ false → s + 2 ^ p < 16) (λ e. omega (arith, h, eqb-false _ _ e)) (λ e. omega (arith, h, eqb-false _ _ e)) (λ e. omega (arith, h, eqb-false _ _ e)) (λ e. omega (arith, h, eqb-false _ _ e)) p
+
+-- four items in the order of their numbers, as all ports and all queues are
+pub record InOrder {A : Type 0} (number : A → ℕ) (xs : List A) : Type 0 where
+  pub numbers : map number xs ≡ 0 ∷ 1 ∷ 2 ∷ 3 ∷ []
+
+-- the one at place i has number i
+pub at_place : {A : Type 0} {number : A → ℕ} {xs : List A} → InOrder number xs → (i : ℕ) (x : A) → i < 4 → number (get_or xs i x) ≡ i
+at_place {number = number} {xs = xs} four i x low =
+    sym (get_or-map number xs i x) ∙ ap (λ l. get_or l i (number x)) four.numbers ∙ each_of_four (λ k. get_or (0 ∷ 1 ∷ 2 ∷ 3 ∷ []) k (number x) ≡ k) refl refl refl refl i low

@@ -4,8 +4,11 @@ use Rattle.frame.specs.Refusals.{Told, accepted, refused}
 use Rattle.frame.specs.declared.numbers.Port.{Port}
 use Rattle.frame.specs.declared.numbers.PortSet.{PortSet}
 use Rattle.frame.specs.declared.numbers.Queue.{Queue}
+use Rattle.frame.specs.declared.numbers.Queue.TheVariants.{Cyclic0, Cyclic1, Paid, BestEffort}
 use Rattle.frame.specs.declared.numbers.Slot.{Slot}
 use Rattle.frame.specs.declared.numbers.Address.{Address}
+use Rattle.frame.specs.declared.numbers.Cell.{Cell}
+use Rattle.frame.specs.declared.numbers.CellId.{CellId}
 
 abbrev pub port_number : Port → ℕ
 port_number p = p.number
@@ -14,13 +17,22 @@ abbrev pub set_bits : PortSet → ℕ
 set_bits s = s.bits
 
 abbrev pub queue_number : Queue → ℕ
-queue_number q = q.number
+queue_number Cyclic0 = 0
+queue_number Cyclic1 = 1
+queue_number Paid = 2
+queue_number BestEffort = 3
 
 abbrev pub slot_number : Slot → ℕ
 slot_number s = s.number
 
 abbrev pub address_bits : Address → ℕ
 address_bits a = a.bits
+
+abbrev pub cell_number : Cell → ℕ
+cell_number c = c.number
+
+abbrev pub id_number : CellId → ℕ
+id_number i = i.0
 
 -- n, where it lies below the bound
 abbrev pub below : ℕ → ℕ → Option ℕ

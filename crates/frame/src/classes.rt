@@ -4,10 +4,10 @@ ghost use Rattle.frame.specs.Classes.{class_number, class_of};
 
 #[derive(Clone, Copy, PartialEq, Eq)]
 pub enum Class {
-    BestEffort,
-    Reserved,
-    Clock,
-    TimeSensitive,
+    BestEffort = 0,
+    Reserved = 1,
+    Clock = 2,
+    TimeSensitive = 3,
 }
 
 // The type of the clock's messages (PTP).
@@ -29,11 +29,6 @@ impl Class {
     pub fn number(self) -> u8
         ensures { result ≡ class_number self }
     {
-        match self {
-            Class::BestEffort => 0,
-            Class::Reserved => 1,
-            Class::Clock => 2,
-            Class::TimeSensitive => 3,
-        }
+        self as u8
     }
 }

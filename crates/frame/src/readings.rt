@@ -71,8 +71,8 @@ pub fn read(bytes: &[u8]) -> Result<Frame<'_>, Refusal>
             t1,
             rest @ ..,
         ] => Ok(Frame {
-            destination: Address::from_bytes([*d0, *d1, *d2, *d3, *d4, *d5]),
-            source: Address::from_bytes([*s0, *s1, *s2, *s3, *s4, *s5]),
+            destination: Address::from([*d0, *d1, *d2, *d3, *d4, *d5]),
+            source: Address::from([*s0, *s1, *s2, *s3, *s4, *s5]),
             reading: behind_type(u16::from_be_bytes([*t0, *t1]), rest),
         }),
         _ => Err(Refusal::WrongLength(length)),

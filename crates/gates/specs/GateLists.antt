@@ -1,5 +1,6 @@
 -- Gate lists: what one says, and where one is wrong. A list is its bytes, one an entry. Assumes nothing.
-use Rattle.std.specs.Prelude.{ℕ, zero, suc, ◌+◌, ◌-◌, ◌/◌, ◌%◌, ◌^◌, Bool, cond, ◌&&◌, ◌||◌, List, length, Some, None, Option, ◌==◌, nat_le, nat_lt, slice_index}
+use Rattle.std.specs.Prelude.{ℕ, ◌-◌, ◌/◌, ◌%◌, ◌^◌, Bool, cond, ◌&&◌, ◌||◌, List, length, find, Some, Option, ◌==◌, nat_le, nat_lt, slice_index}
+use Rattle.std.specs.List.{range_with_len}
 
 -- bit q of an entry, worth 2^q
 abbrev pub entry_bit : ℕ → ℕ → ℕ
@@ -35,8 +36,7 @@ wrong_at es i = ill_formed (slice_index es i) || stays es i
 
 -- the first of the n places from i on at which the test holds
 abbrev pub first_from : (ℕ → Bool) → ℕ → ℕ → Option ℕ
-first_from test i zero = None
-first_from test i (suc n) = cond (test i) (Some i) (first_from test (i + 1) n)
+first_from test i n = find test (range_with_len i n)
 
 -- the place where a list is wrong first: a wrong number of entries comes before all, and is itself the place
 abbrev pub first_wrong : List ℕ → Option ℕ

@@ -1,6 +1,8 @@
 // The plan that goes by a list: one entry a slot, over and over.
-ghost use Rattle.std.specs.Prelude.{◌≡◌, ◌≤◌, false, take, is_some};
+ghost use Rattle.std.specs.Prelude.{◌≡◌, false, is_some};
 ghost use Rattle.gates.specs.GateLists.{first_wrong};
+
+use arrayvec::ArrayVec;
 
 mod judging;
 pub mod methods;
@@ -10,11 +12,9 @@ pub const FEWEST: usize = 2;
 
 pub const MOST: usize = 1024;
 
-// A list that no place is wrong in. Its first `count` bytes are its entries.
+// A list that no place is wrong in.
 #[derive(Drop)]
 pub struct GateList {
-    bytes: [u8; MOST],
-    count: usize,
-    ghost within: { count ≤ 1024 },
-    ghost good: { is_some (first_wrong (take count bytes)) ≡ false },
+    entries: ArrayVec<u8, MOST>,
+    ghost good: { is_some (first_wrong entries.items) ≡ false },
 }

@@ -2,7 +2,7 @@
 ghost use Rattle.gates.specs.Parities.{parity_fills, parity_opens};
 ghost use Rattle.std.proofs.Common.{rules};
 
-use crate::plans::{Plan, one_of_pair};
+use crate::plans::Plan;
 use frame::numbers::{Queue, Slot};
 
 #[derive(Clone, Copy)]
@@ -22,10 +22,14 @@ impl Plan for Parity {
     ghost sends = { Prim.search rules };
 
     fn fill(&self, slot: Slot) -> Queue {
-        one_of_pair((slot.number() % 2) as u8)
+        if slot.number() % 2 == 0 {
+            Queue::Cyclic0
+        } else {
+            Queue::Cyclic1
+        }
     }
 
     fn is_open(&self, slot: Slot, queue: Queue) -> bool {
-        u64::from(queue.number()) != slot.number() % 2
+        queue != self.fill(slot)
     }
 }

@@ -34,13 +34,8 @@ pub fn sending<P: Plan>(plan: &P, slot: Slot) -> Queue
     ensures answer { queue_number result ≡ 1 - P.fills plan.now (slot_number slot) }
     ensures open { P.opens plan.now (slot_number slot) (queue_number result) ≡ true }
 {
-    one_of_pair(1 - plan.fill(slot).number())
-}
-
-// Queue 0 or 1.
-pub(crate) fn one_of_pair(number: u8) -> Queue
-    requires { number < 2 }
-    ensures { queue_number result ≡ number }
-{
-    Queue::new(number).unwrap()
+    match plan.fill(slot) {
+        Queue::Cyclic0 => Queue::Cyclic1,
+        _ => Queue::Cyclic0,
+    }
 }

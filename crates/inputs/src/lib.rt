@@ -11,12 +11,8 @@ use std::{env, io};
 fn read_bytes(rt: &HostRuntime) -> io::Result<Vec<u8>> {
     let most = LONGEST_INPUT as u64 + 1;
     let mut bytes = Vec::new(rt.alloc());
-    let mut words = env::args(rt)?;
-    let _program = words.next();
-    let _length = match words.next() {
-        Some(name) => File::open(rt, name.as_str())?
-            .take(most)
-            .read_to_end(&mut bytes)?,
+    match env::args(rt)?.nth(1) {
+        Some(name) => File::open(rt, name)?.take(most).read_to_end(&mut bytes)?,
         None => rt.stdin().take(most).read_to_end(&mut bytes)?,
     };
     Ok(bytes)
@@ -24,11 +20,8 @@ fn read_bytes(rt: &HostRuntime) -> io::Result<Vec<u8>> {
 
 // The input of this program. Where it cannot be read, that is said on standard error, and the error is handed on.
 pub fn read_input(rt: &HostRuntime, program: &str) -> anyhow::Result<Vec<u8>> {
-    match read_bytes(rt) {
-        Ok(bytes) => Ok(bytes),
-        Err(error) => {
-            eprintln!(rt; "{program}: the input cannot be read: {error}")?;
-            Err(error.into())
-        }
-    }
+    let bytes = read_bytes(rt).inspect_err(|error| {
+        let _ = eprintln!(rt; "{program}: the input cannot be read: {error}");
+    })?;
+    Ok(bytes)
 }

@@ -3,4 +3,3 @@
 
 pub mod lines;
 pub mod outcomes;
-pub mod texts;

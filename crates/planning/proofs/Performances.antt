@@ -1,5 +1,5 @@
 -- Calls performed one after the other on a session. Assumes nothing.
-use Rattle.std.proofs.Common.{◌≡◌, ℕ, List, [], ◌∷◌, ◌++◌, length, Result, Some, sym, refl, ap, ◌∙◌, subst, append_assoc, append-nil, arith}
+use Rattle.std.proofs.Common.{◌≡◌, ℕ, ◌^◌, ◌<◌, List, [], ◌∷◌, ◌++◌, length, Result, Some, sym, refl, ap, ◌∙◌, subst, append_assoc, append-nil, arith}
 use Rattle.cells.specs.FreeCells.{length_marked}
 use Rattle.cells.specs.Orders.{order, ring_marks}
 use Rattle.cells.specs.Settings.{threshold_floors}
@@ -9,21 +9,27 @@ use Rattle.frame.specs.Refusals.{Kept, Told, told}
 use Rattle.frame.specs.declared.refusals.Refusal.{Refusal}
 use Rattle.gates.specs.Parities.{parity_fills, parity_opens}
 use Rattle.lines.specs.Lines.{Outcome, sent}
+use Rattle.lines.specs.Outcomes.{outcome}
+use Rattle.lines.specs.declared.outcomes.Outcome.{Outcome as Came}
 use Rattle.rules.specs.Laws.{Lawful}
 use Rattle.records.specs.Format.{asks, send}
 use Rattle.records.specs.declared.kinds.Record.{Record}
-use Rattle.rules.specs.Cells.{OnlyFreed}
+use Rattle.frame.specs.Frames.{destination}
+use Rattle.rules.specs.Cells.{ContentsAfter, OnlyFreed}
 use Rattle.rules.specs.Runs as runs
 use Rattle.rules.specs.Runs.{Call, Moment, answer_of, granted, last, moment, run, state_after, ticket_in}
 use Rattle.rules.specs.Switch as definition
-use Rattle.rules.specs.Switch.{Behind, State, take_answer, take_state}
-use Rattle.switch.proofs.Called.{Called, called_take, story_on}
-use Rattle.switch.specs.Answers.{took}
-use Rattle.switch.specs.declared.answers.Took.{Took}
+use Rattle.rules.specs.Switch.{Behind, State, arrive_answer, arrive_state, clear_answer, clear_state, take_answer, take_state, tick_answer, tick_state}
+use Rattle.switch.proofs.Called.{Called, called_arrive, called_clear, called_take, called_tick, story_on}
+use Rattle.switch.specs.Answers.{arrived, ticked, took}
+use Rattle.switch.specs.declared.answers.Arrived.{Arrived}
+use Rattle.switch.specs.declared.answers.Ticked.{Ticked}
+use Rattle.egress.specs.declared.takings.Taking.{Taking}
+use Rattle.switch.specs.declared.tickets.Ticket.{Ticket}
 use Rattle.switch.specs.Calls.{buffer_after}
 use Rattle.switch.specs.Switches as switch
 use Rattle.planning.specs.Records.{buffer_left, calls_of, with_ticket}
-use Rattle.planning.specs.Schedules.{outcomes_of, port_in, told_by}
+use Rattle.planning.specs.Schedules.{by_answer, outcomes_of, port_in, told_by}
 use Rattle.planning.specs.Sessions.{Performed, Underway, behind_in, buffer_in, state_in}
 use Rattle.planning.specs.declared.sessions.Session.{Session}
 
@@ -36,13 +42,13 @@ pub lawful : {F : Type 0} (forwards : F → ℕ → ℕ → Way) (s : Session F)
 lawful forwards s = record { pair = λ slot low. omega arith; turns = λ slot low. omega arith; floor = refl }
 
 -- one call
-pub performed_one : {F : Type 0} (forwards : F → ℕ → ℕ → Way) (before : Session F) (c : Call) (told : List Outcome) (after : Session F) → Called ring_marks (behind_in forwards before) before.switch c after.switch → switch.kinds after.switch ≡ switch.kinds before.switch → buffer_in after ≡ buffer_after (answer_of (behind_in forwards before) (state_in before) c) (buffer_in before) → told_by (port_in c) (answer_of (behind_in forwards before) (state_in before) c) ≡ told → Performed (behind_in forwards before) before (c ∷ []) told after
+pub performed_one : {F : Type 0} (forwards : F → ℕ → ℕ → Way) (before : Session F) (c : Call) (told : List Outcome) (after : Session F) → Called (behind_in forwards before) before.switch c after.switch → switch.kinds after.switch ≡ switch.kinds before.switch → buffer_in after ≡ buffer_after (answer_of (behind_in forwards before) (state_in before) c) (buffer_in before) → told_by (port_in c) (answer_of (behind_in forwards before) (state_in before) c) ≡ told → Performed (behind_in forwards before) before (c ∷ []) told after
 performed_one forwards before c told after called kinds buffer says = record {
   told = append-nil _ ∙ says;
   state = called.state_is;
   buffer = buffer;
   kinds = kinds;
-  goes_on = λ slot number rate depth calls so_far. story_on ring_wide (lawful forwards before) called so_far;
+  goes_on = λ slot number rate depth calls so_far. story_on (ring_wide after.switch.pool.store) (lawful forwards before) called so_far;
 }
 
 -- calls made one part after the other
@@ -92,11 +98,21 @@ performed_on {F} {b} {s} {t} {u} {cs} {ds} {os} {ps} one two = record {
 
 -- the same kinds mean the same
 pub behind_same : {F : Type 0} (forwards : F → ℕ → ℕ → Way) (s t : Session F) → switch.kinds s.switch ≡ switch.kinds t.switch → behind_in forwards s ≡ behind_in forwards t
-behind_same forwards s t kinds = λ i. record { fill = parity_fills; opens = parity_opens; floor = threshold_floors (kinds i).1; forward = forwards (kinds i).2 }
+behind_same forwards s t kinds = λ i. record { fill = parity_fills; opens = parity_opens; floor = threshold_floors (kinds i).rule; forward = forwards (kinds i).forwarding }
+
+-- what Arrive, Tick and Clear come to, by what they promise
+pub performed_arrive : {F : Type 0} (forwards : F → ℕ → ℕ → Way) (before after : Session F) (p : ℕ) (f : List ℕ) (r : Result Arrived Refusal) → told arrived r ≡ arrive_answer (behind_in forwards before) (state_in before) p f → state_in after ≡ arrive_state (behind_in forwards before) (state_in before) p f → ContentsAfter (granted (told arrived r)) (switch.contents before.switch) (switch.contents after.switch) → Kept r before.switch after.switch → destination f < 2 ^ 48 → switch.kinds after.switch ≡ switch.kinds before.switch → buffer_in after ≡ buffer_in before → Performed (behind_in forwards before) before (runs.arrive p f ∷ []) (told_by p (runs.arrived (told arrived r))) after
+performed_arrive forwards before after p f r answer is held kept addressed kinds buffer = performed_one forwards before (runs.arrive p f) _ after (called_arrive r p f answer is held kept addressed) kinds buffer (ap (λ t. told_by p (runs.arrived t)) (sym answer))
+
+pub performed_tick : {F : Type 0} (forwards : F → ℕ → ℕ → Way) (before after : Session F) (r : Result Ticked Refusal) → told ticked r ≡ tick_answer (behind_in forwards before) (state_in before) → state_in after ≡ tick_state (behind_in forwards before) (state_in before) → OnlyFreed (switch.contents before.switch) (switch.contents after.switch) → Kept r before.switch after.switch → switch.kinds after.switch ≡ switch.kinds before.switch → buffer_in after ≡ buffer_in before → Performed (behind_in forwards before) before (runs.tick ∷ []) (told_by 0 (runs.ticked (told ticked r))) after
+performed_tick forwards before after r answer is held kept kinds buffer = performed_one forwards before runs.tick _ after (called_tick r answer is held kept) kinds buffer (ap (λ t. told_by 0 (runs.ticked t)) (sym answer))
+
+pub performed_clear : {F : Type 0} (forwards : F → ℕ → ℕ → Way) (before after : Session F) (p : ℕ) (r : Result ℕ Refusal) → told (λ n. n) r ≡ clear_answer (state_in before) p → state_in after ≡ clear_state (state_in before) p → OnlyFreed (switch.contents before.switch) (switch.contents after.switch) → Kept r before.switch after.switch → switch.kinds after.switch ≡ switch.kinds before.switch → buffer_in after ≡ buffer_in before → Performed (behind_in forwards before) before (runs.clear p ∷ []) (told_by p (runs.cleared (told (λ n. n) r))) after
+performed_clear forwards before after p r answer is held kept kinds buffer = performed_one forwards before (runs.clear p) _ after (called_clear r p answer is held kept) kinds buffer (ap (λ t. told_by p (runs.cleared t)) (sym answer))
 
 -- Take, by what it promises
-pub performed_take : {F : Type 0} (forwards : F → ℕ → ℕ → Way) (before after : Session F) (p : ℕ) (r : Result Took Refusal) → told took r ≡ take_answer (behind_in forwards before) (state_in before) p → state_in after ≡ take_state (behind_in forwards before) (state_in before) p → OnlyFreed (switch.contents before.switch) (switch.contents after.switch) → Kept r before.switch after.switch → switch.Sound ring_marks after.switch → switch.kinds after.switch ≡ switch.kinds before.switch → buffer_in after ≡ buffer_in before → Performed (behind_in forwards before) before (runs.take p ∷ []) (told_by p (runs.took (told took r))) after
-performed_take forwards before after p r answer is held kept sound kinds buffer = performed_one forwards before (runs.take p) _ after (called_take r p answer is held kept sound) kinds buffer (ap (λ t. told_by p (runs.took t)) (sym answer))
+pub performed_take : {F : Type 0} (forwards : F → ℕ → ℕ → Way) (before after : Session F) (p : ℕ) (r : Result (Taking Ticket) Refusal) → told took r ≡ take_answer (behind_in forwards before) (state_in before) p → state_in after ≡ take_state (behind_in forwards before) (state_in before) p → OnlyFreed (switch.contents before.switch) (switch.contents after.switch) → Kept r before.switch after.switch → switch.kinds after.switch ≡ switch.kinds before.switch → buffer_in after ≡ buffer_in before → Performed (behind_in forwards before) before (runs.take p ∷ []) (told_by p (runs.took (told took r))) after
+performed_take forwards before after p r answer is held kept kinds buffer = performed_one forwards before (runs.take p) _ after (called_take r p answer is held kept) kinds buffer (ap (λ t. told_by p (runs.took t)) (sym answer))
 
 -- and what a Send is, by the answer of its Take
 pub performed_send : {F : Type 0} (b : Behind) (before after : Session F) (p : ℕ) (os : List Outcome) (t : Told definition.Took) → t ≡ take_answer b (state_in before) p → Performed b before (runs.take p ∷ with_ticket (ticket_in (granted t)) (buffer_in before)) os after → Performed b before (calls_of b (state_in before) (buffer_in before) (send p)) os after
@@ -111,3 +127,10 @@ performed_sent forwards before mid after p overdrawn t o kinds is one two =
 -- what a record asks for, once it is known which record it is
 pub performed_as : {F : Type 0} (b : Behind) (before after : Session F) (os : List Outcome) (asked known : Record) → asked ≡ known → Performed b before (calls_of b (state_in before) (buffer_in before) (asks known)) os after → Performed b before (calls_of b (state_in before) (buffer_in before) (asks asked)) os after
 performed_as b before after os asked known is so_far = subst (λ r. Performed b before (calls_of b (state_in before) (buffer_in before) (asks r)) os after) (sym is) so_far
+
+-- a call, once it is known which it was and what it came to
+pub performed_call : {F : Type 0} (b : Behind) {before after here : Session F} {o : Outcome} {r s : Result Came Refusal} {asked known : Record} → asked ≡ known → after ≡ here → r ≡ s → by_answer (λ x. x) (told outcome r) ≡ o → Performed b before (calls_of b (state_in before) (buffer_in before) (asks known)) (by_answer (λ x. x) (told outcome s) ∷ []) here → Performed b before (calls_of b (state_in before) (buffer_in before) (asks asked)) (o ∷ []) after
+performed_call {F} b {before} {after} {here} {o} {r} {s} {asked} {known} which left answered came so_far =
+    performed_as b before after (o ∷ []) asked known which
+    (subst (λ t. Performed b before (calls_of b (state_in before) (buffer_in before) (asks known)) (o ∷ []) t) (sym left)
+    (subst (λ x. Performed b before (calls_of b (state_in before) (buffer_in before) (asks known)) (x ∷ []) here) (ap (λ x. by_answer (λ y. y) (told outcome x)) (sym answered) ∙ came) so_far))

@@ -1,12 +1,12 @@
 -- What the records of a planner input stand for: a switch, and calls on it. Assumes nothing.
-use Rattle.std.specs.Prelude.{ℕ, zero, suc, ◌+◌, Bool, cond, ◌||◌, List, [], ◌∷◌, ◌++◌, map, length, replicate, is_some, Some, None, Option, nat_le, nat_lt}
+use Rattle.std.specs.Prelude.{ℕ, zero, suc, ◌+◌, Bool, cond, ◌||◌, List, [], ◌∷◌, ◌++◌, length, replicate, is_some, Some, None, Option, nat_le, nat_lt}
 use Rattle.cells.specs.Rules.{floors_under}
 use Rattle.forwarding.specs.Rows.{first_wrong, table_way}
 use Rattle.forwarding.specs.Ways.{Way, tapped}
-use Rattle.forwarding.specs.declared.rows.Row.{Row}
 use Rattle.frame.specs.Refusals.{Told, accepted, refused}
 use Rattle.gates.specs.Parities.{parity_fills, parity_opens}
 use Rattle.records.specs.Format.{Asked, Opened, new, arrive, tick, send, clear, place_behind, record_at}
+use Rattle.records.specs.Tables.{rows_in}
 use Rattle.rules.specs.Runs as run
 use Rattle.rules.specs.Runs.{Call, Moment, last, ticket_in, took_in}
 use Rattle.rules.specs.Switch.{Behind, State, Ticket, new_state, numbers}
@@ -32,9 +32,6 @@ abbrev pub pieces : List ℕ → List Piece
 pieces bs = pieces_from (length bs + 1) bs 0
 
 -- the switch that an opening asks for: over parity, thresholds and an address table, under the tap layer if it says so
-abbrev pub rows_in : List (ℕ × ℕ) → List Row
-rows_in = map (λ r. record { address = record { bits = r.0 }; ports = r.1 })
-
 abbrev pub tapped_if : Bool → Way → ℕ → Way
 tapped_if t w p = cond t (tapped w p) w
 

@@ -1,6 +1,5 @@
 -- A session: the planner's switch and buffer, in the definition's terms, and what performing calls on it means. Assumes nothing.
 use Rattle.std.specs.Prelude.{◌≡◌, ℕ, Bool, List, ◌++◌}
-use Rattle.cells.specs.Orders.{ring_marks}
 use Rattle.cells.specs.Settings.{threshold_floors}
 use Rattle.forwarding.specs.Ways.{Way}
 use Rattle.gates.specs.Parities.{parity_fills, parity_opens}
@@ -22,7 +21,7 @@ module _ {F : Type 0} where
 
   -- the cells that the session's store has free
   abbrev pub cells_in : Session F → List Bool
-  cells_in s = switch.cells ring_marks s.switch
+  cells_in s = switch.cells s.switch
 
   -- what stands behind its switch, by the meaning of the forwarding
   abbrev pub behind_in : (F → ℕ → ℕ → Way) → Session F → Behind

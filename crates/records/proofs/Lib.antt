@@ -1,3 +1,4 @@
 pub mod Places
 pub mod Settings
 pub mod Faults
+pub mod RowsLemmas

@@ -1,8 +1,6 @@
 -- Numbers and rows that are read in a part of a list. Assumes nothing.
-use Rattle.std.proofs.Common.{◌≡◌, ℕ, zero, suc, ◌+◌, ◌-◌, ◌*◌, ◌<◌, ◌≤◌, List, ◌∷◌, length, get_or, take, drop, Some, None, sym, refl, ap, ◌∙◌, add-zero, add_assoc, zero-add, arith}
-use Rattle.std.proofs.lemmas.List.{get_or-drop, take_rest}
-use Rattle.std.proofs.lemmas.Option.{slice_get_past}
-use Rattle.std.specs.List.{slice_get}
+use Rattle.std.proofs.Common.{◌≡◌, ℕ, zero, suc, ◌+◌, ◌*◌, ◌/◌, ◌≤◌, List, ◌∷◌, length, get_or, drop, sym, refl, ap, ◌∙◌, add-zero, add_assoc, zero-add, arith, length-drop}
+use Rattle.std.proofs.lemmas.List.{get_or-drop}
 use Rattle.frame.specs.Numbers.{number_at}
 use Rattle.records.specs.Format.{row_at, rows_at}
 
@@ -26,16 +24,9 @@ pub length_rows : (bs : List ℕ) (p n : ℕ) → length (rows_at bs p n) ≡ n
 length_rows bs p zero = refl
 length_rows bs p (suc n) = ap suc (length_rows bs (p + 7) n)
 
-nth_rows : (bs : List ℕ) (p n k : ℕ) → k < n → slice_get (rows_at bs p n) k ≡ Some (row_at bs (p + k * 7))
-nth_rows bs p zero k h = absurd (omega arith)
-nth_rows bs p (suc n) zero h = ap (λ q. Some (row_at bs q)) (sym (add-zero p))
-nth_rows bs p (suc n) (suc k) h =
-    nth_rows bs (p + 7) n k (omega arith) ∙ ap (λ q. Some (row_at bs q)) (omega arith)
-
--- `&bs[k * 7..]` begins with row k
-pub row_in_part : (bs : List ℕ) (n k : ℕ) → k < n → slice_get (rows_at bs 0 n) k ≡ Some (row_at (take (length bs - k * 7) (drop (k * 7) bs)) 0)
-row_in_part bs n k h =
-    nth_rows bs 0 n k h ∙ ap (λ q. Some (row_at bs q)) (omega arith) ∙ ap Some (sym (ap (λ l. row_at l 0) (take_rest bs (k * 7)) ∙ row_drop bs (k * 7) 0))
-
-pub row_past : (bs : List ℕ) (n k : ℕ) → n ≤ k → slice_get (rows_at bs 0 n) k ≡ None
-row_past bs n k h = slice_get_past (rows_at bs 0 n) k (omega (arith, length_rows bs 0 n))
+-- the first row, and those behind it
+pub first_row : (bs rest : List ℕ) (row : ℕ × ℕ) → 7 ≤ length bs → rest ≡ drop 7 bs → row ≡ row_at bs 0 → rows_at bs 0 (length bs / 7) ≡ row ∷ rows_at rest 0 (length rest / 7)
+first_row bs rest row room behind is =
+    let n : ℕ = length rest / 7 in
+    let more : length bs / 7 ≡ suc n = omega (arith, ap length behind, length-drop 7 bs) in
+    ap (rows_at bs 0) more ∙ (λ j. sym is j ∷ (sym (rows_drop bs 7 0 n) ∙ ap (λ l. rows_at l 0 n) (sym behind)) j)

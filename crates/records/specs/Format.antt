@@ -18,6 +18,8 @@ use Rattle.records.specs.declared.cursors.Cursor.{Cursor}
 use Rattle.forwarding.specs.declared.rows.Row.{Row}
 use Rattle.records.specs.declared.openings.Rows.{Rows}
 use Rattle.records.specs.declared.openings.Opening.{Opening}
+use Rattle.records.specs.declared.kinds.Kind.{Kind}
+use Rattle.records.specs.declared.kinds.Kind.TheVariants as kind
 use Rattle.records.specs.declared.kinds.Record.{Record}
 use Rattle.records.specs.declared.kinds.Record.TheVariants.{New, Arrive, Tick, Send, Clear}
 
@@ -91,6 +93,14 @@ misplaced kind p = cond (kind == 0) (nat_le 1 p) (p == 0)
 abbrev pub broken : List ℕ → ℕ → Bool
 broken bs p = nat_lt (length bs) (p + 2) || nat_lt (length_at bs p) 2 || nat_lt (length bs) (place_behind bs p) || not (version_at bs p == 1) || misplaced (kind_at bs p) p || not (fits (kind_at bs p) (body_at bs p))
 
+-- x, unless there is a fault
+abbrev pub unless : {A : Type 0} → Bool → A → Option A
+unless fault x = cond fault None (Some x)
+
+-- what the record at place p asks for, and the place behind it, unless it is broken
+abbrev pub cut_at : List ℕ → ℕ → Option (Asked × ℕ)
+cut_at bs p = unless (broken bs p) (asked_at bs p, place_behind bs p)
+
 -- what stands at place p: refusal 12 with place 65,536 in an input that is too long, whatever it holds; no record at the end or beyond; else a record, or refusal 12 with its place
 abbrev pub record_at : List ℕ → ℕ → Told (Option Asked)
 record_at bs p = cond (nat_lt 65536 (length bs)) (refused 12 65536) (cond (nat_le (length bs) p) (accepted None) (cond (broken bs p) (refused 12 p) (accepted (Some (asked_at bs p)))))
@@ -104,7 +114,14 @@ is_record (refused n v) = false
 abbrev pub place_after : List ℕ → ℕ → ℕ
 place_after bs p = cond (is_record (record_at bs p)) (place_behind bs p) p
 
--- what the code's values stand for: a cursor's input and place, a row, all rows, an opening, a record
+-- what the code's values stand for: a kind, a cursor's input and place, a row, all rows, an opening, a record, a record with the place behind it
+abbrev pub kind_number : Kind → ℕ
+kind_number kind.Opening = 0
+kind_number kind.Arrive = 1
+kind_number kind.Tick = 2
+kind_number kind.Send = 3
+kind_number kind.Clear = 4
+
 abbrev pub input_of : Cursor → List ℕ
 input_of c = c.input.now
 
@@ -127,6 +144,5 @@ asks Tick = tick
 asks (Send port) = send port
 asks (Clear port) = clear port
 
--- x, unless there is a fault
-abbrev pub unless : {A : Type 0} → Bool → A → Option A
-unless fault x = cond fault None (Some x)
+abbrev pub asks_up_to : Record × ℕ → Asked × ℕ
+asks_up_to t = (asks t.0, t.1)

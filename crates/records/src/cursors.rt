@@ -1,10 +1,10 @@
 // Reading an input record by record.
-ghost use Rattle.std.specs.Prelude.{◌≡◌, ◌<◌, ◌≤◌, length};
+ghost use Rattle.std.specs.Prelude.{◌≡◌};
 ghost use Rattle.std.specs.Option.{option_map};
 ghost use Rattle.frame.specs.Refusals.{told};
-ghost use Rattle.records.specs.Format.{asks, input_of, place_of, asked_at, broken, place_behind, unless, record_at, place_after};
+ghost use Rattle.records.specs.Format.{asks, asks_up_to, input_of, place_of, cut_at, record_at, place_after};
 
-use crate::kinds::{OPENING, Record};
+use crate::kinds::{Kind, Record};
 use frame::refusals::Refusal;
 
 // The longest input, in bytes.
@@ -53,33 +53,25 @@ impl<'a> Cursor<'a> {
         if self.place >= self.input.len() {
             return Ok(None);
         }
-        let Some((record, behind)) = read_at(self.input, self.place) else {
-            return Err(Refusal::BrokenInput(self.place));
-        };
-        *self = Cursor {
-            input: self.input,
-            place: behind,
-        };
+        let (record, behind) = self.read().ok_or(Refusal::BrokenInput(self.place))?;
+        self.place = behind;
         Ok(Some(record))
     }
-}
 
-// The record at this place of an input, with the place behind it, unless it is broken.
-fn read_at(input: &[u8], place: usize) -> Option<(Record<'_>, usize)>
-    requires { (place < length input.now) × (length input.now ≤ 65536) }
-    ensures asked { option_map (λ t. asks t.0) result ≡ unless (broken input.now place) (asked_at input.now place) }
-    ensures behind { option_map (λ t. t.1) result ≡ unless (broken input.now place) (place_behind input.now place) }
-{
-    let [l0, l1, version, kind, rest @ ..] = &input[place..] else {
-        return None;
-    };
-    let length = u16::from_be_bytes([*l0, *l1]) as usize;
-    if length < HEAD || length - HEAD > rest.len() {
-        return None;
+    // The record that stands here, with the place behind it, unless it is broken.
+    fn read(&self) -> Option<(Record<'a>, usize)>
+        ensures { option_map asks_up_to result ≡ cut_at (input_of self.now) (place_of self.now) }
+    {
+        let [l0, l1, VERSION, kind, rest @ ..] = self.input.get(self.place..)? else {
+            return None;
+        };
+        let length = usize::from(u16::from_be_bytes([*l0, *l1]));
+        let body = rest.get(..length.checked_sub(HEAD)?)?;
+        let kind = Kind::new(*kind)?;
+        if (kind == Kind::Opening) != (self.place == 0) {
+            return None;
+        }
+        let record = Record::read(kind, body)?;
+        Some((record, self.place + LENGTH + length))
     }
-    if *version != VERSION || (*kind == OPENING) != (place == 0) {
-        return None;
-    }
-    let record = Record::read(*kind, &rest[0..length - HEAD])?;
-    Some((record, place + LENGTH + length))
 }

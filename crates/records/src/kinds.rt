@@ -1,9 +1,20 @@
 // The kinds of record, and what each holds.
 ghost use Rattle.std.specs.Prelude.{◌≡◌, not};
 ghost use Rattle.std.specs.Option.{option_map};
-ghost use Rattle.records.specs.Format.{asks, asked_by, fits, unless};
+ghost use Rattle.frame.specs.Numbers.{below};
+ghost use Rattle.records.specs.Format.{asks, asked_by, fits, kind_number, unless};
 
 use crate::openings::Opening;
+
+// The kinds, by their numbers. Only the first record is an opening.
+#[derive(Clone, Copy, PartialEq, Eq)]
+pub(crate) enum Kind {
+    Opening = 0,
+    Arrive = 1,
+    Tick = 2,
+    Send = 3,
+    Clear = 4,
+}
 
 // What a record asks for. The values are as they were read: ranges are for the switch to judge.
 #[derive(Clone, Copy)]
@@ -15,28 +26,32 @@ pub enum Record<'a> {
     Clear { port: u8 },
 }
 
-// The numbers of the kinds. Only the first record is an opening.
-pub(crate) const OPENING: u8 = 0;
-
-const ARRIVE: u8 = 1;
-
-const TICK: u8 = 2;
-
-const SEND: u8 = 3;
-
-const CLEAR: u8 = 4;
+impl Kind {
+    pub(crate) fn new(number: u8) -> Option<Kind>
+        ensures { option_map kind_number result ≡ below 5 number }
+    {
+        match number {
+            0 => Some(Kind::Opening),
+            1 => Some(Kind::Arrive),
+            2 => Some(Kind::Tick),
+            3 => Some(Kind::Send),
+            4 => Some(Kind::Clear),
+            _ => None,
+        }
+    }
+}
 
 impl<'a> Record<'a> {
     // The record of this kind and body, if they fit each other.
-    pub(crate) fn read(kind: u8, body: &'a [u8]) -> Option<Record<'a>>
-        ensures { option_map asks result ≡ unless (not (fits kind body.now)) (asked_by kind body.now) }
+    pub(crate) fn read(kind: Kind, body: &'a [u8]) -> Option<Record<'a>>
+        ensures { option_map asks result ≡ unless (not (fits (kind_number kind) body.now)) (asked_by (kind_number kind) body.now) }
     {
         match (kind, body) {
-            (OPENING, _) => Some(Record::New(Opening::read(body)?)),
-            (ARRIVE, [port, frame @ ..]) => Some(Record::Arrive { port: *port, frame }),
-            (TICK, []) => Some(Record::Tick),
-            (SEND, [port]) => Some(Record::Send { port: *port }),
-            (CLEAR, [port]) => Some(Record::Clear { port: *port }),
+            (Kind::Opening, _) => Opening::read(body).map(Record::New),
+            (Kind::Arrive, [port, frame @ ..]) => Some(Record::Arrive { port: *port, frame }),
+            (Kind::Tick, []) => Some(Record::Tick),
+            (Kind::Send, [port]) => Some(Record::Send { port: *port }),
+            (Kind::Clear, [port]) => Some(Record::Clear { port: *port }),
             _ => None,
         }
     }

@@ -4,5 +4,6 @@
 pub mod cursors;
 pub mod kinds;
 pub mod openings;
+pub mod tables;
 #[cfg(test)]
 mod tests;

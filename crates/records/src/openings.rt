@@ -1,17 +1,18 @@
 // The opening record: the settings of a new switch.
-ghost use Rattle.std.specs.Prelude.{◌≡◌, ℕ, not, List, length, drop};
-ghost use Rattle.std.specs.List.{slice_get};
+ghost use Rattle.std.specs.Prelude.{◌≡◌, ℕ, not, List, drop};
+ghost use Rattle.std.specs.Iterator.{YieldsFirstBy, item_count};
 ghost use Rattle.std.specs.Option.{option_map};
 ghost use Rattle.frame.specs.Numbers.{number_at};
 ghost use Rattle.records.specs.Format.{row_of, rows_of, opens, opening_in, opening_fits, unless};
 
 use forwarding::rows::Row;
 use frame::numbers::Address;
+use frame::numbers::addresses::six_bytes;
 
 // The bytes of a row: an address of six and a port set.
 const ROW: usize = 7;
 
-// The rows of an address table, still as bytes.
+// The rows of an address table, still as bytes: an iterator, which cuts one after the other off the front.
 #[derive(Clone, Copy)]
 pub struct Rows<'a> {
     bytes: &'a [u8],
@@ -29,35 +30,34 @@ pub struct Opening<'a> {
     pub rows: Rows<'a>,
 }
 
-impl Rows<'_> {
-    pub fn len(&self) -> usize
-        ensures { result ≡ length (rows_of self.now) }
-    {
-        self.bytes.len() / ROW
-    }
+impl Iterator for Rows<'_> {
+    type Item = Row;
 
-    pub fn get(&self, i: usize) -> Option<Row>
-        ensures { option_map row_of result ≡ slice_get (rows_of self.now) i }
-    {
-        if i >= self.bytes.len() / ROW {
-            return None;
-        }
-        let [a, b, c, d, e, f, ports, ..] = &self.bytes[i * ROW..] else {
+    ghost next_gives = { YieldsFirstBy row_of rows_of };
+
+    ghost remaining = { item_count rows_of };
+
+    fn next(&mut self) -> Option<Row> {
+        let [a, b, c, d, e, f, ports, rest @ ..] = self.bytes else {
             return None;
         };
+        self.bytes = rest;
         Some(Row {
-            address: Address::from_bytes([*a, *b, *c, *d, *e, *f]),
+            address: Address::from([*a, *b, *c, *d, *e, *f]),
             ports: *ports,
         })
     }
+
+    fn size_hint(&self) -> (usize, Option<usize>) {
+        let rows = self.len();
+        (rows, Some(rows))
+    }
 }
 
-// The number of six bytes, the highest first.
-fn six_bytes(bytes: [u8; 6]) -> u64
-    ensures { result ≡ number_at bytes 0 6 }
-{
-    let [a, b, c, d, e, f] = bytes;
-    u64::from_be_bytes([0, 0, a, b, c, d, e, f])
+impl ExactSizeIterator for Rows<'_> {
+    fn len(&self) -> usize {
+        self.bytes.len() / ROW
+    }
 }
 
 impl<'a> Opening<'a> {
@@ -80,7 +80,7 @@ impl<'a> Opening<'a> {
         let [r0, r1, d0, d1, v0, v1, b0, b1, tap, count, rows @ ..] = settings else {
             return None;
         };
-        if *tap > 1 || rows.len() != ROW * *count as usize {
+        if *tap > 1 || rows.len() != ROW * usize::from(*count) {
             return None;
         }
         Some(Opening {

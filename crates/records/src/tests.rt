@@ -12,12 +12,8 @@ const INPUT: &[u8; 45] =
 // The place of the first fault among the first four records, if there is one.
 fn fault(input: &[u8]) -> Option<u64> {
     let mut cursor = Cursor::new(input);
-    for _ in 0..4 {
-        if let Err(refusal) = cursor.next() {
-            return Some(refusal.value());
-        }
-    }
-    None
+    let refusal = (0..4).find_map(|_| cursor.next().err())?;
+    Some(refusal.value())
 }
 
 #[test]
@@ -56,19 +52,21 @@ fn opens(answer: Result<Option<Record>, Refusal>) -> bool {
     let Ok(Some(Record::New(o))) = answer else {
         return false;
     };
-    let Some(row) = o.rows.get(0) else {
-        return false;
-    };
     (o.slot, o.number, o.rate, o.depth) == (9, 256, 4, 8)
         && (o.reserved, o.best_effort, o.tap, o.rows.len()) == (3, 6, true, 1)
-        && (row.address.bits(), row.ports) == (0x0200_0000_0005, 3)
+        && o.rows
+            .map(|row| (row.address.bits(), row.ports))
+            .eq([(0x0200_0000_0005, 3)])
 }
 
 fn arrives(answer: Result<Option<Record>, Refusal>) -> bool {
-    match answer {
-        Ok(Some(Record::Arrive { port, frame })) => port == 2 && frame == [0xAA, 0xBB].as_slice(),
-        _ => false,
-    }
+    matches!(
+        answer,
+        Ok(Some(Record::Arrive {
+            port: 2,
+            frame: [0xAA, 0xBB],
+        }))
+    )
 }
 
 #[test]

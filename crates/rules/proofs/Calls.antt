@@ -1,5 +1,6 @@
 -- What each call does to the copies of a port, read as its answer and the states tell it. Assumes nothing.
 use Rattle.std.proofs.Common.{◌≡◌, ℕ, zero, suc, ◌+◌, ◌-◌, ◌<◌, ◌≤◌, Bool, true, false, cond, ◌&&◌, eqb, ltb, ◌⊎◌, List, [], ◌∷◌, ◌++◌, length, Some, None, Option, sym, refl, ap, ◌∙◌, inl, inr, arith}
+use Rattle.std.proofs.lemmas.List.Sums.{sum_by-append}
 use mathlib.Core.Path.{subst⁻¹}
 use Rattle.std.specs.Option.{option_map, option_to_list}
 use Rattle.std.specs.List.{AllByRecursion as All}
@@ -7,7 +8,7 @@ use Rattle.std.proofs.lemmas.Bool.{eqb-true, eqb-false, eq-eqb, ne_eqb, lt-ltb, 
 use Rattle.rules.specs.Copies.{Copy, Egress, Taking, queue_for, with_queue, with_tokens, with_out, laid, queued_at}
 use Rattle.rules.specs.Switch.{Arrived, Ticket}
 use Rattle.rules.specs.Runs.{total, count, bit, numbered, sum4, holds}
-use Rattle.rules.proofs.Totals.{total_append, ended_bit}
+use Rattle.rules.proofs.Totals.{ended_bit}
 use Rattle.rules.proofs.Moves.{Move, none, only, only_total, queued_total, queued_flow, out_flow, stays, lays_one, ends_queue, ends_all, leaves_out, Takes}
 
 -- how often frame n is queued, and how often it is out
@@ -212,7 +213,7 @@ module _ (f : ℕ) (small : f < 2) (a : Arrived) (bytes : List ℕ) (e : Egress)
         kinds = λ w. refl;
         laying =
             record {
-              is = λ n. and_true (eqb a.number n) ∙ sym (only_total (λ c. bit (numbered n c)) new_queue (new_copy ∷ []) (queue_small f a.class small));
+              is = λ n. omega (arith, and_true (eqb a.number n), only_total (λ c. bit (numbered n c)) new_queue (new_copy ∷ []) (queue_small f a.class small));
               new = λ j. new_at j (eqb j new_queue) refl;
               sending = cond-false (eqb (1 - f) new_queue) (new_copy ∷ []) [] (ne_eqb (1 - f) new_queue (queue_not_sending f a.class small));
               filling = one_at_most (eqb f new_queue);
@@ -363,7 +364,7 @@ module _ (f : ℕ) (e : Egress) (t : ℕ) where
         over = [];
         cleared = whole e;
         move = ends_all e t;
-        kinds = λ w. omega (arith, queued_total w e, total_append w (queued_at e) (option_to_list e.out));
+        kinds = λ w. omega (arith, queued_total w e, sum_by-append w (queued_at e) (option_to_list e.out));
         laying = lays_none f None [] (λ n. false) (λ n. refl);
         taking = takes_none f (λ n. false) (option_to_list e.out) (λ n. refl);
         sending = sends_none (λ n. false) e cleared_port (option_to_list e.out) (λ n. refl);
@@ -372,7 +373,7 @@ module _ (f : ℕ) (e : Egress) (t : ℕ) where
         reserved = tt;
         clearing =
             record {
-              is = λ n h. ended_bit (there e n) (there e n) 0 h (omega arith) (λ l. omega arith) ∙ sym (total_append (λ c. bit (numbered n c)) (queued_at e) (option_to_list e.out));
+              is = λ n h. ended_bit (there e n) (there e n) 0 h (omega arith) (λ l. omega arith) ∙ sym (sum_by-append (λ c. bit (numbered n c)) (queued_at e) (option_to_list e.out));
               from = λ P a. a;
               many = refl;
             };

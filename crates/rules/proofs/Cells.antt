@@ -16,8 +16,8 @@ use Rattle.rules.proofs.Laws.{holds_of}
 
 -- one of a list, and one more at its end
 within_none : {A : Type 0} (past : List A) (x : A) → Among [] past x → ⊥
-within_none [] x (future, e) = let z : ◌≡◌ {A = ℕ} 0 1 = cc in omega arith
-within_none (y ∷ past) x (future, e) = let z : ◌≡◌ {A = ℕ} 0 1 = cc in omega arith
+within_none [] x (future, e) = cc
+within_none (y ∷ past) x (future, e) = cc
 
 within_more : {A : Type 0} (xs past : List A) (x y : A) → Among xs past x → Among (xs ++ y ∷ []) past x
 within_more xs past x y (future, e) = (future ++ y ∷ [], ap (λ l. l ++ y ∷ []) e ∙ append_assoc past (x ∷ future) (y ∷ []))
@@ -70,7 +70,7 @@ marked_as : {s : State} {marks : List Bool} {contents : ℕ → Option ℕ} {o :
 marked_as tied c l e = tied.marked c l ∙ ap (λ o. not (is_some o)) e
 
 some_from : (o : Option ℕ) → not (is_some o) ≡ false → (n : ℕ) × (o ≡ Some n)
-some_from None h = absurd (let z : ◌≡◌ {A = ℕ} 0 1 = cc in omega arith)
+some_from None h = cc
 some_from (Some n) h = (n, refl)
 
 pub story_new : (b : Behind) (slot number rate depth : ℕ) (marks : List Bool) (contents : ℕ → Option ℕ) → slot < numbers → marks ≡ all_free → Tied (new_state slot number rate depth) marks contents → Story b slot number rate depth [] (new_state slot number rate depth) marks contents
@@ -164,7 +164,7 @@ module _ {b : Behind} {slot number rate depth : ℕ} {calls : List Call} {s : St
       ⊎_elim
       (λ r.
       ⊎_elim (λ e. granted_more st.events event n k (st.origin k n (sym e ∙ h)))
-      (λ e. absurd (let z : ◌≡◌ {A = ℕ} 0 1 = cc in omega arith))
+      (λ e. cc)
       (r.1 k))
       (λ (a, e, (j, l, z, p)).
       ⊎_elim

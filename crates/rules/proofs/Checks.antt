@@ -15,7 +15,7 @@ below_is bound n x e =
 
 -- an answer and a refusal are two things
 pub never_both : {A : Type 0} (x : A) (n v : ℕ) → accepted x ≡ refused n v → ⊥
-never_both x n v e = let z : ◌≡◌ {A = ℕ} 0 1 = cc in omega arith
+never_both x n v e = cc
 
 -- one check decides alike whatever the answer is
 module _ {A B : Type 0} where

@@ -1,5 +1,6 @@
 -- The laws over runs. Assumes nothing.
 use Rattle.std.proofs.Common.{◌≡◌, ℕ, zero, suc, ◌+◌, ◌-◌, ◌<◌, ◌≤◌, Bool, true, false, cond, not, ◌&&◌, eqb, ltb, leb, List, [], ◌∷◌, ◌++◌, length, drop, is_some, Some, None, Option, sym, refl, ap, ◌∙◌, subst, ⊎_elim, arith}
+use Rattle.std.proofs.lemmas.List.Sums.{sum_by-append, sum_by-cons, sum_by_push}
 use Rattle.std.specs.Option.{option_to_list}
 use Rattle.std.specs.List.{AllByRecursion as All}
 use Rattle.std.proofs.lemmas.Bool.{cases_Bool, lt-ltb, eq-eqb, le-leb}
@@ -11,7 +12,7 @@ use Rattle.rules.specs.Copies.{Copy}
 use Rattle.rules.specs.Switch.{Behind, State, Check, judged, Arrived, Ticked, numbers, new_state, free, way_of, set_of, is_tap, is_unknown, no_such_port, arrive_answer, out_as, not_out, out_bytes, look_answer, look_buffer, shown}
 use Rattle.rules.specs.Runs.{Call, arrive, look, Answer, arrived, ticked, took, looked, returned, cleared, Moment, moment, answer_of, state_after, run, last, granted, arrived_in, ticked_in, took_in, ticket_in, total, bit, count, amount, holds, numbered, queued, out_there, lays, takes, sends, ends_late, ends_overdrawn, ends_cleared, slot_told, slot_after, Arrival, arrival}
 use Rattle.rules.specs.Laws.{Lawful, Within, CameAs, is_tick, is_arrived, Account, Slots, Holds, LawsHold}
-use Rattle.rules.proofs.Totals.{total_append, total_push, counted, all_counted, zero_or}
+use Rattle.rules.proofs.Totals.{counted, all_counted, zero_or}
 use Rattle.rules.proofs.Moves.{queued_flow, out_flow}
 use Rattle.rules.proofs.Calls.{ticket_for}
 use Rattle.rules.proofs.Steps.{Stepped, step, judged_passes, is_out}
@@ -68,13 +69,13 @@ module _ (b : Behind) (lawful : Lawful b) (slot number : ℕ) where
 -- a test that held at a moment is counted
 counts : (test : Moment → Bool) (ms past : List Moment) (m : Moment) → Within ms past m → test m ≡ true → 0 < count test ms
 counts test ms past m (future, e) h =
-    omega (arith, ap (count test) e, total_append (λ x. bit (test x)) past (m ∷ future), ap bit h)
+    omega (arith, ap (count test) e, sum_by-append (λ x. bit (test x)) past (m ∷ future), sum_by-cons (λ x. bit (test x)) m future, ap bit h)
 
 -- a Tick takes nothing
 tick_takes : (x : Answer) (e : Ticked) → ticked_in x ≡ Some e → took_in x ≡ None
 tick_takes (arrived t) e h = refl
 tick_takes (ticked t) e h = refl
-tick_takes (took t) e h = absurd (let z : ◌≡◌ {A = ℕ} 0 1 = cc in omega arith)
+tick_takes (took t) e h = cc
 tick_takes (looked t buffer) e h = refl
 tick_takes (returned t) e h = refl
 tick_takes (cleared t) e h = refl
@@ -191,7 +192,7 @@ module _ (b : Behind) (lawful : Lawful b) (slot number : ℕ) (past : List Momen
           (zero_or (queued n p m.after))
 
       gone : queued n p m.after + out_there n p m.after ≡ 0
-      gone = omega (arith, not_queued, next.past.sent n p, total_push (λ x. bit (takes n p x)) past m, none_taken, untaken)
+      gone = omega (arith, not_queued, next.past.sent n p, sum_by_push (λ x. bit (takes n p x)) past m, none_taken, untaken)
 
   taken_order : (earlier : List Moment) (e : Moment) → Within past earlier e → (n k p : ℕ) → takes n p e ≡ true → takes k p m ≡ true → (a c : Arrival) → CameAs slot past n 3 a → CameAs slot past k 3 c → n < k
   taken_order earlier e w n k p he hm a c qa qc =

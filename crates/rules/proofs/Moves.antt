@@ -1,11 +1,12 @@
 -- What a call does to the copies of one port: some are laid at the back of queues, some end or are taken off their front, and one may leave the place of the copy that is out. Assumes nothing.
 use Rattle.std.proofs.Common.{◌≡◌, ℕ, zero, suc, ◌+◌, ◌<◌, Bool, true, false, cond, eqb, ltb, List, [], ◌∷◌, ◌++◌, length, Some, None, sym, refl, ap, ◌∙◌, ⊎_elim, append-nil, arith}
+use Rattle.std.proofs.lemmas.List.Sums.{sum_by-append}
 use Rattle.std.specs.Option.{option_to_list}
 use Rattle.std.specs.List.{AllByRecursion as All}
 use Rattle.std.proofs.lemmas.Bool.{cases_Bool, eqb-true, eq-eqb, ltb-true, cond-false}
 use Rattle.rules.specs.Copies.{Copy, Egress, Taking, cost, put, with_queue, with_tokens, with_out, laid, too_dear, affordable, take_best_effort, best_effort_part, take_paid, paid_part, take_sending, take_at, queued_at}
 use Rattle.rules.specs.Runs.{total, sum4}
-use Rattle.rules.proofs.Totals.{total_append, all_parts}
+use Rattle.rules.proofs.Totals.{all_parts}
 
 -- from e to e': by queue what was laid, ended and taken; then what was put out, and what was out and is no more
 pub record Move (laid ended taken : ℕ → List Copy) (took left : List Copy) (e e' : Egress) : Type 0 where
@@ -18,12 +19,12 @@ none j = []
 
 pub queued_total : (w : Copy → ℕ) (e : Egress) → total w (queued_at e) ≡ sum4 (λ j. total w (e.queue j))
 queued_total w e =
-    omega (arith, total_append w (e.queue 0) (e.queue 1 ++ (e.queue 2 ++ e.queue 3)), total_append w (e.queue 1) (e.queue 2 ++ e.queue 3), total_append w (e.queue 2) (e.queue 3))
+    omega (arith, sum_by-append w (e.queue 0) (e.queue 1 ++ (e.queue 2 ++ e.queue 3)), sum_by-append w (e.queue 1) (e.queue 2 ++ e.queue 3), sum_by-append w (e.queue 2) (e.queue 3))
 
 module _ {laid ended taken : ℕ → List Copy} {took left : List Copy} {e e' : Egress} (mv : Move laid ended taken took left e e') (w : Copy → ℕ) where
   queue_flow : (j : ℕ) → total w (e.queue j) + total w (laid j) ≡ total w (ended j) + (total w (taken j) + total w (e'.queue j))
   queue_flow j =
-      omega (arith, ap (total w) (mv.queues j), total_append w (e.queue j) (laid j), total_append w (ended j) (taken j ++ e'.queue j), total_append w (taken j) (e'.queue j))
+      omega (arith, ap (total w) (mv.queues j), sum_by-append w (e.queue j) (laid j), sum_by-append w (ended j) (taken j ++ e'.queue j), sum_by-append w (taken j) (e'.queue j))
 
   -- whatever copies are counted by, none is lost and none comes from nowhere
   pub queued_flow : total w (queued_at e) + sum4 (λ j. total w (laid j)) ≡ sum4 (λ j. total w (ended j)) + total w took + total w (queued_at e')
@@ -32,7 +33,7 @@ module _ {laid ended taken : ℕ → List Copy} {took left : List Copy} {e e' : 
 
   pub out_flow : total w (option_to_list e.out) + total w took ≡ total w left + total w (option_to_list e'.out)
   out_flow =
-      omega (arith, ap (total w) mv.outs, total_append w (option_to_list e.out) took, total_append w left (option_to_list e'.out))
+      omega (arith, ap (total w) mv.outs, sum_by-append w (option_to_list e.out) took, sum_by-append w left (option_to_list e'.out))
 
 -- nothing happens
 pub stays : (e : Egress) → Move none none none [] [] e e

@@ -1,5 +1,6 @@
 -- Time-sensitive copies leave a port in the order of their frame numbers. Assumes nothing.
 use Rattle.std.proofs.Common.{◌≡◌, ℕ, ◌+◌, ◌-◌, ◌<◌, Bool, true, false, cond, ◌&&◌, eqb, ◌⊎◌, List, [], ◌∷◌, ◌++◌, is_some, Some, None, Option, sym, refl, ap, ◌∙◌, subst, inl, inr, ⊎_elim, append_assoc, append-nil, arith}
+use Rattle.std.proofs.lemmas.List.Sums.{sum_by-cons, sum_by_push}
 use Rattle.std.specs.Option.{option_to_list}
 use Rattle.std.specs.List.{AllByRecursion as All}
 use Rattle.std.proofs.ByRecursion.{All-append, All-weaker}
@@ -8,7 +9,7 @@ use Rattle.frame.specs.Numbers.{in_set}
 use Rattle.rules.specs.Copies.{Copy}
 use Rattle.rules.specs.Switch.{Behind, State, Arrived, new_state}
 use Rattle.rules.specs.Runs.{Moment, arrived_in, ticked_in, took_in, cleared_in, bit, count, holds, numbered, lays, takes, sends, slot_told, Arrival, bytes_in, arrival_or, arrival}
-use Rattle.rules.proofs.Totals.{total_push, all_parts, all_both, counted, zero_or}
+use Rattle.rules.proofs.Totals.{all_parts, all_both, counted, zero_or}
 use Rattle.rules.proofs.Calls.{Befell, New}
 use Rattle.rules.proofs.Steps.{Stepped}
 use Rattle.rules.proofs.Pasts.{Past, arrival_kept}
@@ -66,7 +67,7 @@ module _ (e t k' d u f' : List Copy) where
 -- a frame that was laid somewhere has arrived
 pub known : (first n p : ℕ) (h : List Moment) → 0 < count (lays n p) h → (a : Arrival) × (arrival first n h ≡ Some a)
 known first n p [] l = absurd (omega arith)
-known first n p (m ∷ h) l = at (known (slot_told first (ticked_in m.answer)) n p h) (arrived_in m.answer) l
+known first n p (m ∷ h) l = at (known (slot_told first (ticked_in m.answer)) n p h) (arrived_in m.answer) (omega (arith, sum_by-cons (λ x. bit (lays n p x)) m h))
   where
     at : (0 < count (lays n p) h → (a : Arrival) × (arrival (slot_told first (ticked_in m.answer)) n h ≡ Some a)) → (o : Option Arrived) → 0 < bit (holds (λ a. eqb a.number n && in_set a.set p) o) + count (lays n p) h → (a : Arrival) × (arrival_or (arrival (slot_told first (ticked_in m.answer)) n h) first n (bytes_in m.call) o ≡ Some a)
     at f None l = f (omega arith)
@@ -107,7 +108,7 @@ module _ (first number : ℕ) (b : Behind) (h : List Moment) (m : Moment) (past 
   below_next : (R : ℕ → ℕ → Type 0) (cs : List Copy) → All (Came first h R) cs → All (λ c. c.number < m.before.next) cs
   below_next R =
       All-weaker (Came first h R) (λ c. c.number < m.before.next)
-      (λ c r. ⊎_elim (λ l. l) (λ l. absurd (let q = past.unknown c.number l in let t = r.told in let z : ◌≡◌ {A = ℕ} 0 1 = cc in omega arith)) (cases_lt c.number m.before.next))
+      (λ c r. ⊎_elim (λ l. l) (λ l. let q = past.unknown c.number l in let t = r.told in cc) (cases_lt c.number m.before.next))
 
   taken_known : (n p : ℕ) (a : Arrival) → arrival first n h' ≡ Some a → 0 < count (takes n p) h → (arrival first n h ≡ Some a) × (n < m.before.next)
   taken_known n p a e l =
@@ -168,7 +169,7 @@ module _ (first number : ℕ) (b : Behind) (h : List Moment) (m : Moment) (past 
     passed_on : (n : ℕ) (a : Arrival) → arrival first n h' ≡ Some a → a.class ≡ 3 → 0 < count (takes n p) h' → Above n rest
     passed_on n a e c l =
         ⊎_elim
-        (λ z. passed_now n a e c (omega (arith, total_push (λ x. bit (takes n p x)) h m, d.taking.is n)))
+        (λ z. passed_now n a e c (omega (arith, sum_by_push (λ x. bit (takes n p x)) h m, d.taking.is n)))
         (λ z. let q = taken_known n p a e z in (rest_above n q.1 (order.passed n p a q.0 c z)).1)
         (zero_or (count (takes n p) h))
 
@@ -192,7 +193,7 @@ module _ (first number : ℕ) (b : Behind) (h : List Moment) (m : Moment) (past 
     behind_on n a e c l =
         ⊎_elim
         (λ z.
-        subst (λ (o : Option Copy). All (λ c. c.class ≡ 3 → n < c.number) (option_to_list o)) (sym (d.sending.out n (omega (arith, total_push (λ x. bit (sends n p x)) h m)))) tt)
+        subst (λ (o : Option Copy). All (λ c. c.class ≡ 3 → n < c.number) (option_to_list o)) (sym (d.sending.out n (omega (arith, sum_by_push (λ x. bit (sends n p x)) h m)))) tt)
         (λ z. behind_old n a e c z)
         (zero_or (count (sends n p) h))
 

@@ -1,5 +1,6 @@
 -- What holds of the moments so far and the state that they lead to: slots, numbers and the account of every copy. Assumes nothing.
 use Rattle.std.proofs.Common.{◌≡◌, ℕ, ◌+◌, ◌<◌, ◌≤◌, Bool, true, false, cond, ◌&&◌, eqb, ◌⊎◌, List, [], ◌∷◌, ◌++◌, is_some, Some, None, Option, sym, refl, ap, ◌∙◌, inl, inr, ⊎_elim, arith}
+use Rattle.std.proofs.lemmas.List.Sums.{sum_by_push}
 use Rattle.std.specs.Option.{option_or}
 use Rattle.std.proofs.lemmas.Bool.{eqb-true, ne_eqb}
 use Rattle.frame.specs.Numbers.{in_set}
@@ -7,7 +8,6 @@ use Rattle.rules.specs.Copies.{Copy}
 use Rattle.rules.specs.Switch.{Behind, State, Arrived, numbers, new_state}
 use Rattle.rules.specs.Runs.{Moment, arrived_in, ticked_in, bit, count, holds, numbered, queued, out_there, lays, takes, sends, ends_late, ends_overdrawn, ends_cleared, slot_told, slot_after, Arrival, bytes_in, arrival_or, arrival}
 use Rattle.rules.specs.Laws.{is_tick, is_arrived}
-use Rattle.rules.proofs.Totals.{total_push}
 use Rattle.rules.proofs.Moves.{queued_flow, out_flow}
 use Rattle.rules.proofs.Steps.{Stepped}
 
@@ -117,23 +117,23 @@ module _ (slot number : ℕ) (b : Behind) (h : List Moment) (m : Moment) (past :
   past_push =
       record {
         slot_is = st.slot_is ∙ ap (λ x. slot_told x (ticked_in m.answer)) past.slot_is ∙ sym (slot_push slot h m);
-        ticks = omega (arith, st.tick_is, past.ticks, total_push (λ e. bit (is_tick e)) h m);
+        ticks = omega (arith, st.tick_is, past.ticks, sum_by_push (λ e. bit (is_tick e)) h m);
         small = st.small;
-        next_is = omega (arith, st.next_is, past.next_is, total_push (λ e. bit (is_arrived e)) h m);
+        next_is = omega (arith, st.next_is, past.next_is, sum_by_push (λ e. bit (is_arrived e)) h m);
         unknown = λ n l.
             arrival_push slot n h m
             ∙ ap (λ o. option_or o (arrival_now (slot_after slot h) n m)) (past.unknown n (omega (arith, next_grows)))
             ∙ unknown_now b m st (slot_after slot h) n l;
-        unlaid = λ n p l. omega (arith, total_push (λ e. bit (lays n p e)) h m, unlaid_next n p l);
-        once = λ n p. omega (arith, total_push (λ e. bit (lays n p e)) h m, once_next n p);
+        unlaid = λ n p l. omega (arith, sum_by_push (λ e. bit (lays n p e)) h m, unlaid_next n p l);
+        once = λ n p. omega (arith, sum_by_push (λ e. bit (lays n p e)) h m, once_next n p);
         account = λ n p.
-            omega (arith, account_next n p, total_push (λ e. bit (lays n p e)) h m, total_push (λ e. bit (sends n p e)) h m, total_push (λ e. bit (ends_late n p e)) h m, total_push (λ e. bit (ends_overdrawn n p e)) h m, total_push (λ e. bit (ends_cleared n p e)) h m);
+            omega (arith, account_next n p, sum_by_push (λ e. bit (lays n p e)) h m, sum_by_push (λ e. bit (sends n p e)) h m, sum_by_push (λ e. bit (ends_late n p e)) h m, sum_by_push (λ e. bit (ends_overdrawn n p e)) h m, sum_by_push (λ e. bit (ends_cleared n p e)) h m);
         taken = λ n p.
             let w : Copy → ℕ = λ c. bit (numbered n c) in
             let d = st.befell p in
-            omega (arith, past.taken n p, queued_flow d.move w, d.laying.is n, d.taking.is n, total_push (λ e. bit (lays n p e)) h m, total_push (λ e. bit (takes n p e)) h m);
+            omega (arith, past.taken n p, queued_flow d.move w, d.laying.is n, d.taking.is n, sum_by_push (λ e. bit (lays n p e)) h m, sum_by_push (λ e. bit (takes n p e)) h m);
         sent = λ n p.
             let w : Copy → ℕ = λ c. bit (numbered n c) in
             let d = st.befell p in
-            omega (arith, past.sent n p, out_flow d.move w, d.sending.among w, d.sending.is n, d.taking.is n, total_push (λ e. bit (sends n p e)) h m, total_push (λ e. bit (takes n p e)) h m);
+            omega (arith, past.sent n p, out_flow d.move w, d.sending.among w, d.sending.is n, d.taking.is n, sum_by_push (λ e. bit (sends n p e)) h m, sum_by_push (λ e. bit (takes n p e)) h m);
       }

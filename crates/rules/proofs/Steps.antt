@@ -20,7 +20,7 @@ judged_passes [] x y e = (cc, tt)
 judged_passes {A} (c ∷ cs) x y e = at (judged_passes cs x y) c.fails refl e
   where
     at : (judged cs x ≡ accepted y → (x ≡ y) × All (λ c. c.fails ≡ false) cs) → (t : Bool) → c.fails ≡ t → cond t (refused c.number c.value) (judged cs x) ≡ accepted y → (x ≡ y) × All (λ c. c.fails ≡ false) (c ∷ cs)
-    at f true q h = absurd (let z : ◌≡◌ {A = ℕ} 0 1 = cc in omega arith)
+    at f true q h = cc
     at f false q h = let r = f h in (r.0, (q, r.1))
 
 pub record Stepped (b : Behind) (m : Moment) : Type 1 where
@@ -51,7 +51,7 @@ module _ (b : Behind) (s : State) (small : s.slot < numbers) where
         tick_is = omega (arith, ap (λ o. bit (is_some o)) et);
         small = small;
         next_is = omega (arith, ap (λ o. bit (is_some o)) ea);
-        number_is = λ a e. absurd (let z : ◌≡◌ {A = ℕ} 0 1 = cc in omega arith);
+        number_is = λ a e. cc;
         turned = inl refl;
         laid_told = ap (amount (λ a. sum4 (λ p. bit (in_set a.set p)))) ea;
         sent_told = ap (λ o. bit (is_some o)) er;
@@ -118,7 +118,7 @@ module _ (b : Behind) (lawful : Lawful b) (s : State) (small : s.slot < numbers)
         tick_is = refl;
         small = h;
         next_is = omega arith;
-        number_is = λ a e. absurd (let z : ◌≡◌ {A = ℕ} 0 1 = cc in omega arith);
+        number_is = λ a e. cc;
         turned = inr (refl, lawful.turns s.slot h, λ p. cond-true (eqb (1 - fills) (1 - fills)) [] ((s.port p).queue (1 - fills)) (eq-eqb (1 - fills) (1 - fills) refl));
         laid_told = refl;
         sent_told = refl;
@@ -143,7 +143,7 @@ module _ (b : Behind) (lawful : Lawful b) (s : State) (small : s.slot < numbers)
 
   not_busy : (o : Option Copy) → (busy o).fails ≡ false → o ≡ None
   not_busy None h = refl
-  not_busy (Some c) h = absurd (let z : ◌≡◌ {A = ℕ} 0 1 = cc in omega arith)
+  not_busy (Some c) h = cc
 
   no_ticket : (p q n : ℕ) (o : Option Copy) → eqb q p ≡ false → ticket_for q (option_map (ticket_at p) o) n ≡ false
   no_ticket p q n None h = refl
@@ -169,7 +169,7 @@ module _ (b : Behind) (lawful : Lawful b) (s : State) (small : s.slot < numbers)
           tick_is = omega arith;
           small = small;
           next_is = omega arith;
-          number_is = λ a e. absurd (let z : ◌≡◌ {A = ℕ} 0 1 = cc in omega arith);
+          number_is = λ a e. cc;
           turned = inl refl;
           laid_told = refl;
           sent_told = refl;
@@ -186,20 +186,20 @@ module _ (b : Behind) (lawful : Lawful b) (s : State) (small : s.slot < numbers)
 
   -- a ticket that is accepted is that of the copy out there
   numbered_out : (n : ℕ) (o : Option Copy) (c : Copy) → if_numbered n o ≡ Some c → (o ≡ Some c) × (c.number ≡ n)
-  numbered_out n None c e = absurd (let z : ◌≡◌ {A = ℕ} 0 1 = cc in omega arith)
+  numbered_out n None c e = cc
   numbered_out n (Some d) c e = at (eqb d.number n) refl e
     where
       at : (t : Bool) → eqb d.number n ≡ t → cond t (Some d) None ≡ Some c → (Some d ≡ Some c) × (c.number ≡ n)
       at true h q = let i : d ≡ c = cc in (q, sym (ap (λ x. x.number) i) ∙ eqb-true d.number n h)
-      at false h q = absurd (let z : ◌≡◌ {A = ℕ} 0 1 = cc in omega arith)
+      at false h q = cc
 
   pub is_out : (p n : ℕ) (o : Option Copy) → out_as s p n ≡ o → (not_out o p).fails ≡ false → (c : Copy) × (out_as s p n ≡ Some c) × (p < 4) × ((s.port p).out ≡ Some c) × (c.number ≡ n)
-  is_out p n None e h = absurd (let z : ◌≡◌ {A = ℕ} 0 1 = cc in omega arith)
+  is_out p n None e h = cc
   is_out p n (Some c) e h = at (ltb p 4) refl e
     where
       at : (t : Bool) → ltb p 4 ≡ t → cond t (if_numbered n (s.port p).out) None ≡ Some c → (c : Copy) × (out_as s p n ≡ Some c) × (p < 4) × ((s.port p).out ≡ Some c) × (c.number ≡ n)
       at true h q = let r = numbered_out n (s.port p).out c q in (c, e, ltb-true p 4 h, r.0, r.1)
-      at false h q = absurd (let z : ◌≡◌ {A = ℕ} 0 1 = cc in omega arith)
+      at false h q = cc
 
   module _ (p n : ℕ) (c : Copy) (out : (s.port p).out ≡ Some c) (number : c.number ≡ n) where
     return_befell : (q : ℕ) (t : Bool) → eqb q p ≡ t → Befell (record { laid = 0; sent = cond t 1 0; late = 0; over = 0; cleared = 0 }) fills None [] (λ k. false) (λ k. false) (λ k. eqb p q && eqb n k) false false false (s.port q) (cond t (with_out (s.port p) None) (s.port q))
@@ -218,7 +218,7 @@ module _ (b : Behind) (lawful : Lawful b) (s : State) (small : s.slot < numbers)
           tick_is = omega arith;
           small = small;
           next_is = omega arith;
-          number_is = λ a e. absurd (let z : ◌≡◌ {A = ℕ} 0 1 = cc in omega arith);
+          number_is = λ a e. cc;
           turned = inl refl;
           laid_told = refl;
           sent_told = at_only_sum p 1 l;
@@ -253,7 +253,7 @@ module _ (b : Behind) (lawful : Lawful b) (s : State) (small : s.slot < numbers)
         tick_is = omega arith;
         small = small;
         next_is = omega arith;
-        number_is = λ a e. absurd (let z : ◌≡◌ {A = ℕ} 0 1 = cc in omega arith);
+        number_is = λ a e. cc;
         turned = inl refl;
         laid_told = refl;
         sent_told = refl;

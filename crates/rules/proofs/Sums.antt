@@ -1,12 +1,13 @@
 -- The answered counts: each call's own, and their sums over a run. Assumes nothing.
 use Rattle.std.proofs.Common.{◌≡◌, ℕ, zero, suc, ◌+◌, ◌<◌, ◌≤◌, Bool, true, false, ◌&&◌, eqb, ltb, List, [], ◌∷◌, ◌++◌, length, is_some, Some, None, Option, sym, refl, ◌∙◌, ⊎_elim, arith, length-append}
+use Rattle.std.proofs.lemmas.List.Sums.{sum_by_push}
 use Rattle.std.specs.Option.{option_to_list}
 use Rattle.std.proofs.lemmas.Bool.{cases_lt}
 use Rattle.rules.specs.Copies.{Copy, Egress, queued_at}
 use Rattle.rules.specs.Switch.{Behind, State, new_state, standing}
 use Rattle.rules.specs.Runs.{Moment, ticked_in, took_in, cleared_in, total, bit, count, sum4, sum_below, numbered, queued, out_there, ends_late, ends_overdrawn, ends_cleared}
 use Rattle.rules.specs.Laws.{laid_told, late_told, overdrawn_told, cleared_told, is_returned, copies_that}
-use Rattle.rules.proofs.Totals.{total_push, total_one, all_counted, sum_below_same, sum_below_count}
+use Rattle.rules.proofs.Totals.{total_one, all_counted, sum_below_same, sum_below_count}
 use Rattle.rules.proofs.Moves.{queued_flow, out_flow}
 use Rattle.rules.proofs.Steps.{Stepped}
 use Rattle.rules.proofs.Pasts.{Past, few}
@@ -98,5 +99,5 @@ module _ (b : Behind) (h : List Moment) (m : Moment) (st : Stepped b m) where
       record {
         sums =
             sums_on (count is_returned h) (total late_told h) (total overdrawn_told h) (total cleared_told h) (sum4 (λ p. sum4 (λ k. standing m.before p k))) (sum4 (λ p. bit (is_some (m.before.port p).out))) (sum4 (λ p. sum4 (λ k. standing m.after p k))) (sum4 (λ p. bit (is_some (m.after.port p).out))) (laid_told m) (bit (is_returned m)) (late_told m) (overdrawn_told m) (cleared_told m)
-            r.sums (total_push laid_told h m) (total_push (λ x. bit (is_returned x)) h m) (total_push late_told h m) (total_push overdrawn_told h m) (total_push cleared_told h m) moment_sum (held_sum m.before) (held_sum m.after);
+            r.sums (sum_by_push laid_told h m) (sum_by_push (λ x. bit (is_returned x)) h m) (sum_by_push late_told h m) (sum_by_push overdrawn_told h m) (sum_by_push cleared_told h m) moment_sum (held_sum m.before) (held_sum m.after);
       }

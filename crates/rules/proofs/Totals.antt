@@ -2,19 +2,13 @@
 use Rattle.std.proofs.Common.{◌≡◌, ℕ, zero, suc, ◌+◌, ◌<◌, ◌≤◌, ◌&&◌, eqb, ltb, ◌⊎◌, List, [], ◌∷◌, ◌++◌, length, sym, refl, ap, ◌∙◌, inl, inr, ⊎_elim, arith}
 use Rattle.std.specs.List.{AllByRecursion as All}
 use Rattle.std.proofs.lemmas.Bool.{cases_Bool, eqb-true, eqb-false, eq-eqb, ne_eqb, lt-ltb}
+use Rattle.std.proofs.lemmas.List.Sums.{sum_by-cons}
 use Rattle.rules.specs.Copies.{Copy}
 use Rattle.rules.specs.Runs.{total, count, bit, numbered, sum_below}
 
-pub total_append : {A : Type 0} (f : A → ℕ) (xs ys : List A) → total f (xs ++ ys) ≡ total f xs + total f ys
-total_append f [] ys = omega arith
-total_append f (x ∷ xs) ys = omega (arith, total_append f xs ys)
-
-pub total_push : {A : Type 0} (f : A → ℕ) (xs : List A) (x : A) → total f (xs ++ x ∷ []) ≡ total f xs + f x
-total_push f xs x = omega (arith, total_append f xs (x ∷ []))
-
 pub total_one : {A : Type 0} (xs : List A) → total (λ x. 1) xs ≡ length xs
 total_one [] = refl
-total_one (x ∷ xs) = omega (arith, total_one xs)
+total_one (x ∷ xs) = omega (arith, sum_by-cons (λ y. 1) x xs, total_one xs)
 
 pub zero_or : (n : ℕ) → (n ≡ 0) ⊎ (0 < n)
 zero_or zero = inl refl
@@ -35,14 +29,15 @@ counted P n [] a h = absurd (omega arith)
 counted P n (c ∷ cs) a h =
     ⊎_elim
     (λ e. (c, eqb-true c.number n e, a.0))
-    (λ e. counted P n cs a.1 (omega (arith, ap bit e)))
+    (λ e. counted P n cs a.1 (omega (arith, sum_by-cons (λ d. bit (numbered n d)) c cs, ap bit e)))
     (cases_Bool (eqb c.number n))
 
 -- what holds of each copy whose number is counted in the list
 pub all_counted : (P : Copy → Type 0) (cs : List Copy) → ((c : Copy) → 0 < count (numbered c.number) cs → P c) → All P cs
 all_counted P [] g = tt
 all_counted P (c ∷ cs) g =
-    (g c (omega (arith, ap bit (eq-eqb c.number c.number refl))), all_counted P cs (λ d l. g d (omega arith)))
+    let more : (n : ℕ) → count (numbered n) (c ∷ cs) ≡ bit (numbered n c) + count (numbered n) cs = λ n. sum_by-cons (λ d. bit (numbered n d)) c cs in
+    (g c (omega (arith, more c.number, ap bit (eq-eqb c.number c.number refl))), all_counted P cs (λ d l. g d (omega (arith, more d.number))))
 
 -- a copy that ends is there before and gone after: l of the x copies before end, and y are there after
 pub ended_bit : (x l y : ℕ) → x ≤ 1 → l ≤ x → (1 ≤ x → l + y ≡ 1) → bit (ltb 0 x && eqb y 0) ≡ l
@@ -79,4 +74,4 @@ sum_below_zero (suc n) = omega (arith, sum_below_zero n)
 pub sum_below_count : (n : ℕ) (cs : List Copy) → All (λ c. c.number < n) cs → sum_below (λ k. count (numbered k) cs) n ≡ length cs
 sum_below_count n [] h = sum_below_zero n
 sum_below_count n (c ∷ cs) h =
-    omega (arith, sum_below_add (λ k. bit (eqb c.number k)) (λ k. count (numbered k) cs) n, sum_below_one c.number n h.0, sum_below_count n cs h.1)
+    omega (arith, sum_below_same (λ k. count (numbered k) (c ∷ cs)) (λ k. bit (eqb c.number k) + count (numbered k) cs) n (λ k. sum_by-cons (λ d. bit (numbered k d)) c cs), sum_below_add (λ k. bit (eqb c.number k)) (λ k. count (numbered k) cs) n, sum_below_one c.number n h.0, sum_below_count n cs h.1)

@@ -1,5 +1,6 @@
 -- Where the copies of a state come from: the Arrive that laid each, its slot and class, and the queue that it waits in. Assumes nothing.
 use Rattle.std.proofs.Common.{◌≡◌, ℕ, zero, suc, ◌+◌, ◌-◌, ◌<◌, ◌≤◌, Bool, true, false, cond, ◌&&◌, eqb, ltb, ◌⊎◌, List, [], ◌∷◌, ◌++◌, Some, None, sym, refl, ap, ◌∙◌, subst, inl, inr, ⊎_elim, arith}
+use Rattle.std.proofs.lemmas.List.Sums.{sum_by_push}
 use Rattle.std.specs.Option.{option_or, option_to_list}
 use Rattle.std.specs.List.{AllByRecursion as All}
 use Rattle.std.proofs.ByRecursion.{All-append, All-weaker}
@@ -8,7 +9,7 @@ use Rattle.rules.specs.Copies.{Copy, Egress}
 use Rattle.rules.specs.Switch.{Behind, State, new_state}
 use Rattle.rules.specs.Runs.{Moment, arrived_in, bit, count, sum4, numbered, queued, out_there, ends_late, ends_overdrawn, slot_after, Arrival, bytes_in, arrival_or, arrival}
 use Rattle.rules.specs.Laws.{is_tick}
-use Rattle.rules.proofs.Totals.{total_push, all_parts, counted, zero_or}
+use Rattle.rules.proofs.Totals.{all_parts, counted, zero_or}
 use Rattle.rules.proofs.Moves.{Move, queued_total}
 use Rattle.rules.proofs.Calls.{New}
 use Rattle.rules.proofs.Steps.{Stepped}
@@ -235,8 +236,8 @@ module _ (first number : ℕ) (b : Behind) (h : List Moment) (m : Moment) (past 
   pub ends_push : Ends first h m.before → Ends first (h ++ m ∷ []) m.after
   ends_push e =
       record {
-        late = λ n p l. late_at n p (omega (arith, total_push (λ x. bit (ends_late n p x)) h m)) (zero_or (count (ends_late n p) h));
-        over = λ n p l. over_at n p (omega (arith, total_push (λ x. bit (ends_overdrawn n p x)) h m)) (zero_or (count (ends_overdrawn n p) h));
+        late = λ n p l. late_at n p (omega (arith, sum_by_push (λ x. bit (ends_late n p x)) h m)) (zero_or (count (ends_late n p) h));
+        over = λ n p l. over_at n p (omega (arith, sum_by_push (λ x. bit (ends_overdrawn n p x)) h m)) (zero_or (count (ends_overdrawn n p) h));
       }
     where
       late_at : (n p : ℕ) → 0 < count (ends_late n p) h + bit (ends_late n p m) → (count (ends_late n p) h ≡ 0) ⊎ (0 < count (ends_late n p) h) → (a : Arrival) × (arrival first n (h ++ m ∷ []) ≡ Some a) × (a.class ≡ 3) × (a.slot + 2 ≤ m.after.slot)

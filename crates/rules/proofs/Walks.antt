@@ -1,5 +1,5 @@
 -- What every moment keeps holds throughout a run. Assumes nothing.
-use Rattle.std.proofs.Common.{◌≡◌, ℕ, List, [], ◌∷◌, ◌++◌, sym, refl, ap, ◌∙◌, subst, append_assoc, append-nil, arith}
+use Rattle.std.proofs.Common.{◌≡◌, List, [], ◌∷◌, ◌++◌, sym, refl, ap, ◌∙◌, subst, append_assoc, append-nil}
 use Rattle.rules.specs.Switch.{Behind, State}
 use Rattle.rules.specs.Runs.{Call, Moment, moment, state_after, run, last}
 use Rattle.rules.specs.Laws.{Within}
@@ -29,8 +29,8 @@ module _ (b : Behind) (I : List Moment → State → Type 0) (keeps : (h : List 
     pub inv : I h state
 
   pub at_each : (cs : List Call) (h : List Moment) (s : State) → I h s → (past : List Moment) (m : Moment) → Within (run b s cs) past m → Met (h ++ past) m
-  at_each [] h s i [] m (future, e) = absurd (let z : ◌≡◌ {A = ℕ} 0 1 = cc in omega arith)
-  at_each [] h s i (x ∷ past) m (future, e) = absurd (let z : ◌≡◌ {A = ℕ} 0 1 = cc in omega arith)
+  at_each [] h s i [] m (future, e) = cc
+  at_each [] h s i (x ∷ past) m (future, e) = cc
   at_each (c ∷ cs) h s i [] m (future, e) = record { state = s; call = c; is = cc; inv = subst (λ (l : List Moment). I l s) (sym (append-nil h)) i }
   at_each (c ∷ cs) h s i (x ∷ past) m (future, e) =
       let q : moment b s c ≡ x = cc in

@@ -1,5 +1,5 @@
 -- Runs of the switch: any list of calls from any state, with what each call was answered, and how to read it. Assumes nothing.
-use Rattle.std.specs.Prelude.{ℕ, zero, suc, ◌+◌, Bool, false, cond, ◌&&◌, List, [], ◌∷◌, is_some, Some, None, Option, ◌==◌, nat_lt}
+use Rattle.std.specs.Prelude.{ℕ, zero, suc, ◌+◌, Bool, false, cond, ◌&&◌, List, [], ◌∷◌, is_some, Some, None, Option, ◌==◌, nat_lt, sum_by}
 use Rattle.std.specs.Option.{option_to_list}
 use Rattle.frame.specs.Numbers.{in_set}
 use Rattle.frame.specs.Refusals.{Told, accepted, refused}
@@ -110,8 +110,7 @@ cleared_in (cleared t) = granted t
 
 -- a total over a list; a test counts as one where it holds
 abbrev pub total : {A : Type 0} → (A → ℕ) → List A → ℕ
-total f [] = 0
-total f (x ∷ xs) = f x + total f xs
+total f xs = sum_by f xs
 
 abbrev pub bit : Bool → ℕ
 bit b = cond b 1 0

@@ -1,10 +1,10 @@
 -- A run that is under way: the turns made so far, and one more. Assumes nothing.
-use Rattle.std.proofs.Common.{◌≡◌, ℕ, ◌+◌, ◌<◌, Bool, true, leb, List, [], ◌∷◌, ◌++◌, map, length, get_or, take, drop, set, Some, vec_items, sym, refl, ap, ◌∙◌, subst, arith, length-drop}
+use Rattle.std.proofs.Common.{◌≡◌, ℕ, ◌+◌, ◌<◌, true, leb, List, [], ◌∷◌, ◌++◌, map, length, get_or, take, drop, set, Some, vec_items, sym, refl, ap, ◌∙◌, subst, arith, length-drop}
 use Rattle.std.proofs.lemmas.List.{drop_more, drop-set-lt, get_or-drop, map_push, with_items_is, take_more, take_more_set}
 use Rattle.std.proofs.lemmas.Bool.{leb-false}
 use Rattle.std.specs.Vec.{with_items}
-use Rattle.buffers.specs.Holdings.{next_number}
 use Rattle.cells.specs.Stores.{all_free}
+use Rattle.cells.specs.declared.stores.Store.{Ghosts}
 use Rattle.frame.specs.Refusals.{accepted}
 use Rattle.rules.proofs.Cells.{story_new}
 use Rattle.rules.proofs.Walks.{run_push}
@@ -18,7 +18,7 @@ use Rattle.rules.proofs.Checks.{first_passed, passed}
 use Rattle.switch.proofs.Called.{Called, story_on}
 use Rattle.switch.proofs.Tied.{tied}
 use Rattle.switch.specs.Calls.{answer_with, buffer_after, call_with}
-use Rattle.switch.specs.Switches.{Sound, contents, state}
+use Rattle.switch.specs.Switches.{cells, contents, state}
 use Rattle.switch.specs.declared.calls.Answer.{Answer as Given}
 use Rattle.switch.specs.declared.calls.Call.{Call as Listed}
 use Rattle.switch.specs.declared.switches.Switch.{Switch}
@@ -48,44 +48,42 @@ addressed_push (d ∷ cs) c so_far now = (so_far.0, addressed_push cs c so_far.1
 abbrev pub asked_by : List Turn → ℕ → List Call
 asked_by before i = map asked (take i before)
 
-module _ {S P R F : Type 0} (marks : S → List Bool) (b : Behind) (slot number rate depth : ℕ) (before : List Turn) where
+module _ {S P R F : Type 0} {store : Ghosts S} (b : Behind) (slot number rate depth : ℕ) (before : List Turn) where
   -- the first i turns were made
-  pub record Underway (now : List Turn) (i : ℕ) (s : Switch S P R F) : Type 0 where
-    pub story : Story b slot number rate depth (asked_by before i) (state s) (marks s.store) (contents s)
+  pub record Underway (now : List Turn) (i : ℕ) (s : Switch S P R F store) : Type 0 where
+    pub story : Story b slot number rate depth (asked_by before i) (state s) (cells s) (contents s)
     pub turns : AllMade (take i before) (run b (new_state slot number rate depth) (asked_by before i)) (take i now)
     pub rest : drop i now ≡ drop i before
     pub addressed : AllAddressed (asked_by before i)
-    pub sound : Sound marks s
 
-pub underway_as : {S P R F : Type 0} {marks : S → List Bool} {b b' : Behind} {slot slot' number number' rate rate' depth depth' : ℕ} {before now : List Turn} {i : ℕ} {s : Switch S P R F} → b ≡ b' → slot ≡ slot' → number ≡ number' → rate ≡ rate' → depth ≡ depth' → Underway marks b slot number rate depth before now i s → Underway marks b' slot' number' rate' depth' before now i s
-underway_as {S} {P} {R} {F} {marks} {b} {b'} {slot} {slot'} {number} {number'} {rate} {rate'} {depth} {depth'} {before} {now} {i} {s} p q r u v under =
-    subst (λ (X : Type 0). X) (λ j. Underway marks (p j) (q j) (r j) (u j) (v j) before now i s) under
+pub underway_as : {S P R F : Type 0} {store : Ghosts S} {b b' : Behind} {slot slot' number number' rate rate' depth depth' : ℕ} {before now : List Turn} {i : ℕ} {s : Switch S P R F store} → b ≡ b' → slot ≡ slot' → number ≡ number' → rate ≡ rate' → depth ≡ depth' → Underway b slot number rate depth before now i s → Underway b' slot' number' rate' depth' before now i s
+underway_as {S} {P} {R} {F} {store} {b} {b'} {slot} {slot'} {number} {number'} {rate} {rate'} {depth} {depth'} {before} {now} {i} {s} p q r u v under =
+    subst (λ (X : Type 0). X) (λ j. Underway (p j) (q j) (r j) (u j) (v j) before now i s) under
 
 -- a switch that New made is at the start of a run
-pub as_started : {S P R F : Type 0} (s : Switch S P R F) (settings : Settings) → accepted (state s) ≡ new_answer settings.slot settings.number settings.rate settings.depth → state s ≡ new_state s.slot.number (next_number s.buffers) s.rate s.depth
+pub as_started : {S P R F : Type 0} {store : Ghosts S} (s : Switch S P R F store) (settings : Settings) → accepted (state s) ≡ new_answer settings.slot settings.number settings.bucket.rate settings.bucket.depth → state s ≡ new_state (state s).slot (state s).next (state s).rate (state s).depth
 as_started s settings answer =
     let is = (passed (new_checks settings.slot settings.number) [] (state s) (started settings) settings answer).0 in
     is ∙ sym (λ j. new_state (is j).slot (is j).next (is j).rate (is j).depth)
 
 -- where New accepts its settings, the first slot is one
-pub slot_below : (settings : Settings) → accepted (started settings) ≡ new_answer settings.slot settings.number settings.rate settings.depth → settings.slot < numbers
+pub slot_below : (settings : Settings) → accepted (started settings) ≡ new_answer settings.slot settings.number settings.bucket.rate settings.bucket.depth → settings.slot < numbers
 slot_below settings answer =
     let slot : Check = record { fails = leb numbers settings.slot; number = 10; value = 0 } in
     let number : Check = record { fails = leb numbers settings.number; number = 10; value = 1 } in
     leb-false numbers settings.slot (first_passed slot (number ∷ []) (started settings) (started settings) answer).0
 
-module _ {S P R F : Type 0} {marks : S → List Bool} {b : Behind} {slot number rate depth : ℕ} {before : List Turn} (wide : (s : S) → length (marks s) ≡ 32) where
+module _ {S P R F : Type 0} {store : Ghosts S} {b : Behind} {slot number rate depth : ℕ} {before : List Turn} where
   -- no turn yet
-  pub underway_new : (s : Switch S P R F) → slot < numbers → marks s.store ≡ all_free → state s ≡ new_state slot number rate depth → Sound marks s → Underway marks b slot number rate depth before before 0 s
-  underway_new s small free is sound = record {
-    story = subst (λ x. Story b slot number rate depth [] x (marks s.store) (contents s)) (sym is) (story_new b slot number rate depth (marks s.store) (contents s) small free (subst (λ x. Tied x (marks s.store) (contents s)) is (tied marks s (wide s.store) sound)));
+  pub underway_new : (s : Switch S P R F store) → slot < numbers → length (cells s) ≡ 32 → cells s ≡ all_free → state s ≡ new_state slot number rate depth → Underway b slot number rate depth before before 0 s
+  underway_new s small wide free is = record {
+    story = subst (λ x. Story b slot number rate depth [] x (cells s) (contents s)) (sym is) (story_new b slot number rate depth (cells s) (contents s) small free (subst (λ x. Tied x (cells s) (contents s)) is (tied s wide)));
     turns = tt;
     rest = refl;
     addressed = tt;
-    sound = sound;
   }
 
-  module _ (lawful : Lawful b) {now : List Turn} {i : ℕ} {s : Switch S P R F} (so_far : Underway marks b slot number rate depth before now i s) (low : i < length now) (t : Turn) (is : get_or now i t ≡ t) where
+  module _ (lawful : Lawful b) {now : List Turn} {i : ℕ} {s : Switch S P R F store} (so_far : Underway b slot number rate depth before now i s) (low : i < length now) (t : Turn) (is : get_or now i t ≡ t) where
     within : i < length before
     within = omega (arith, ap length so_far.rest, length-drop i now, length-drop i before)
 
@@ -112,26 +110,24 @@ module _ {S P R F : Type 0} {marks : S → List Bool} {b : Behind} {slot number 
         ∙ ap (λ x. run b (new_state slot number rate depth) (asked_by before i) ++ moment b x (asked t) ∷ []) (sym so_far.story.state)
 
     -- one turn more
-    pub underway_on : (after : Switch S P R F) (u : Turn) → Made t (moment b (state s) (asked t)) u → Called marks b s (asked t) after → Underway marks b slot number rate depth before (set now i u) (i + 1) after
-    underway_on after u made called = record {
-      story = subst (λ cs. Story b slot number rate depth cs (state after) (marks after.store) (contents after)) (sym asks) (story_on wide lawful called so_far.story);
+    pub underway_on : (after : Switch S P R F store) (u : Turn) → length (cells after) ≡ 32 → Made t (moment b (state s) (asked t)) u → Called b s (asked t) after → Underway b slot number rate depth before (set now i u) (i + 1) after
+    underway_on after u wide made called = record {
+      story = subst (λ cs. Story b slot number rate depth cs (state after) (cells after) (contents after)) (sym asks) (story_on wide lawful called so_far.story);
       turns = made_as more goes_on (take_more_set now i u low) (made_push (take i before) (run b (new_state slot number rate depth) (asked_by before i)) (take i now) t (moment b (state s) (asked t)) u so_far.turns made);
       rest = drop-set-lt (i + 1) now i u (omega arith) ∙ rest_on;
       addressed = subst AllAddressed (sym asks) (addressed_push (asked_by before i) (asked t) so_far.addressed called.addressed);
-      sound = called.sound;
     }
 
 -- what a call of a list promises, by its buffer before and after it
-pub record Answering {S P R F : Type 0} (marks : S → List Bool) (b : Behind) (s after : Switch S P R F) (c : Listed) (r : Given) (entry exit : List ℕ) : Type 0 where
+pub record Answering {S P R F : Type 0} {store : Ghosts S} (b : Behind) (s after : Switch S P R F store) (c : Listed) (r : Given) (entry exit : List ℕ) : Type 0 where
   pub answer : answer_with r exit ≡ answer_of b (state s) (call_with c entry)
   pub buffer : exit ≡ buffer_after (answer_with r exit) entry
   pub state_is : state after ≡ state_after b (state s) (call_with c entry)
   pub contents_are : ContentsAfter (arrived_in (answer_with r exit)) (contents s) (contents after)
   pub kept : refuses (answer_with r exit) ≡ true → after ≡ s
-  pub sound : Sound marks after
   pub addressed : Addressed (call_with c entry)
 
-module _ {S P R F : Type 0} {marks : S → List Bool} {b : Behind} {s after : Switch S P R F} {r : Given} {exit : List ℕ} (t : Turn) (step : Answering marks b s after t.call r (vec_items t.buffer) exit) where
+module _ {S P R F : Type 0} {store : Ghosts S} {b : Behind} {s after : Switch S P R F store} {r : Given} {exit : List ℕ} (t : Turn) (step : Answering b s after t.call r (vec_items t.buffer) exit) where
   -- the turn with that answer was made
   pub made_so : length exit ≡ t.buffer.len → Made t (moment b (state s) (asked t)) (record { call = t.call; buffer = with_items t.buffer exit; answer = Some r })
   made_so long =
@@ -143,11 +139,10 @@ module _ {S P R F : Type 0} {marks : S → List Bool} {b : Behind} {s after : Sw
         buffer = holds ∙ step.buffer ∙ ap (λ a. buffer_after a (vec_items t.buffer)) step.answer;
       }
 
-  pub called_so : Called marks b s (asked t) after
+  pub called_so : Called b s (asked t) after
   called_so = record {
     state_is = step.state_is;
     contents_are = subst (λ a. ContentsAfter (arrived_in a) (contents s) (contents after)) step.answer step.contents_are;
     kept = λ refused. step.kept (ap refuses step.answer ∙ refused);
-    sound = step.sound;
     addressed = step.addressed;
   }

@@ -1,5 +1,6 @@
 -- What is promised of every run of the switch, and of two runs beside each other. Assumes nothing.
 use Rattle.std.specs.Prelude.{◌≡◌, ℕ, ◌+◌, Bool, List, [], ◌∷◌, map, is_some}
+use Rattle.cells.specs.declared.stores.Store.{Ghosts}
 use Rattle.rules.specs.Cells.{Event}
 use Rattle.rules.specs.Laws.{cleared_told, is_returned, laid_told, late_told, overdrawn_told}
 use Rattle.rules.specs.Promises.{Promise, moments}
@@ -23,12 +24,12 @@ pub record View : Type 0 where
   pub marks : List Bool
   pub state : State
 
-abbrev pub view : {S P R F : Type 0} → (S → List Bool) → Behind → List Turn → List Turn → Ended S P R F → View
-view marks b before after e = record { behind = b; before = before; after = after; standing = e.standing; gauges = map gauged e.gauges; marks = switch.cells marks e.switch; state = switch.state e.switch }
+abbrev pub view : {S P R F : Type 0} {store : Ghosts S} → Behind → List Turn → List Turn → Ended S P R F store → View
+view b before after e = record { behind = b; before = before; after = after; standing = e.standing; gauges = map gauged e.gauges; marks = switch.cells e.switch; state = switch.state e.switch }
 
 -- the state that New leaves
 abbrev pub started : Settings → State
-started s = new_state s.slot s.number s.rate s.depth
+started s = new_state s.slot s.number s.bucket.rate s.bucket.depth
 
 abbrev pub sum : List ℕ → ℕ
 sum [] = 0
@@ -39,7 +40,7 @@ pub record Statement (settings : Settings) (v : View) : Type 0 where
   -- the events of the run: for each call the states around it, its answer, and which cells the store had free before and after it
   pub events : List Event
   -- account, cells, admission, slots and order hold of them; they are the calls that the turns ask for
-  pub promise : Promise v.behind settings.slot settings.number settings.rate settings.depth (map asked v.before) events v.marks v.state
+  pub promise : Promise v.behind settings.slot settings.number settings.bucket.rate settings.bucket.depth (map asked v.before) events v.marks v.state
   -- they are the turns, all of them and in their order, with the answers and buffers that were written into them
   pub turns : AllMade v.before (moments events) v.after
   -- laid in = sent + late + overdrawn + cleared + queued + out, by what the calls answered, and Standing and Gauge at the end

@@ -4,23 +4,23 @@ ghost use Rattle.frame.specs.Refusals.{Kept, told};
 ghost use Rattle.rules.specs.Switch.{new_answer};
 ghost use Rattle.rules.specs.Twins.{AllAddressed};
 ghost use Rattle.switch.specs.Answers.{gauged, standing_rows};
-ghost use Rattle.switch.specs.Switches.{Sound, kinds as of_switch, meant, state};
+ghost use Rattle.switch.specs.Switches.{kinds as kinds_of, meant, state};
 ghost use Rattle.runs.specs.Gauges.{all_gauged};
 ghost use Rattle.runs.specs.Statement.{Statement, started, view};
 ghost use Rattle.runs.specs.Turns.{asked};
 
-use crate::turns::{Ended, Kinds, Turn};
+use crate::turns::{Ended, Turn};
 use cells::rules::Rule;
 use cells::stores::Store;
 use forwarding::routes::Forwarding;
 use frame::refusals::Refusal;
 use gates::plans::Plan;
 use switch::answers::Gauged;
-use switch::switches::Switch;
 use switch::switches::starts::Settings;
+use switch::switches::{Kinds, Switch};
 
 // What Gauge answers for each port.
-fn gauge_all<S, P, R, F>(switch: &Switch<S, P, R, F>) -> [Gauged; 4]
+fn gauge_all<S: Store, P, R, F>(switch: &Switch<S, P, R, F>) -> [Gauged; 4]
     ensures { map gauged result ≡ all_gauged (state switch.now) }
 {
     [
@@ -38,24 +38,15 @@ pub fn run<S: Store, P: Plan + Drop, R: Rule + Drop, F: Forwarding + Drop>(
     kinds: Kinds<P, R, F>,
     turns: &mut [Turn<'_>],
 ) -> Result<Ended<S, P, R, F>, Refusal>
-    ensures answer { told (λ _. started settings) result ≡ new_answer settings.slot settings.number settings.rate settings.depth }
-    ensures statement { IfOk result (λ e. Statement settings (view S.marks (meant P.fills P.opens R.floors F.forwards kinds.plan kinds.rule kinds.forwarding) turns.old turns.new e)) }
+    ensures answer { told (λ _. started settings) result ≡ new_answer settings.slot settings.number settings.bucket.rate settings.bucket.depth }
+    ensures statement { IfOk result (λ e. Statement settings (view (meant P.fills P.opens R.floors F.forwards kinds) turns.old turns.new e)) }
     ensures standing { IfOk result (λ e. e.standing ≡ standing_rows (state e.switch)) }
     ensures gauges { IfOk result (λ e. map gauged e.gauges ≡ all_gauged (state e.switch)) }
-    ensures kinds { IfOk result (λ e. of_switch e.switch ≡ (kinds.plan, kinds.rule, kinds.forwarding)) }
-    ensures sound { IfOk result (λ e. Sound S.marks e.switch) }
+    ensures kinds { IfOk result (λ e. kinds_of e.switch ≡ kinds) }
     ensures addressed { OnOk result (AllAddressed (map asked turns.old)) }
     ensures kept { Kept result turns.old turns.new }
 {
-    let mut switch: Switch<S, P, R, F> = Switch::new(
-        settings.slot,
-        settings.number,
-        settings.rate,
-        settings.depth,
-        kinds.plan,
-        kinds.rule,
-        kinds.forwarding,
-    )?;
+    let mut switch = Switch::new(settings, kinds)?;
     for turn in turns.iter_mut() {
         turn.answer = Some(switch.make(turn.call, turn.buffer.as_mut_slice()));
     }

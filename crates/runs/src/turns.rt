@@ -1,4 +1,5 @@
 // The turns of a run.
+use cells::stores::Store;
 use switch::answers::Gauged;
 use switch::calls::{Answer, Call};
 use switch::switches::Switch;
@@ -11,17 +12,9 @@ pub struct Turn<'a> {
     pub answer: Option<Answer>,
 }
 
-// What stands behind a switch beside its store.
-#[derive(Drop)]
-pub struct Kinds<P, R, F> {
-    pub plan: P,
-    pub rule: R,
-    pub forwarding: F,
-}
-
 // The switch after the last turn, and what Standing and Gauge answer then.
 #[derive(Drop)]
-pub struct Ended<S, P, R, F> {
+pub struct Ended<S: Store, P, R, F> {
     pub switch: Switch<S, P, R, F>,
     pub standing: [[u32; 4]; 4],
     pub gauges: [Gauged; 4],

@@ -6,22 +6,16 @@ ghost use Rattle.switch.specs.Switches.{meant};
 ghost use Rattle.runs.specs.Statement.{Twins, started, view};
 
 use crate::runs::run;
-use crate::turns::{Ended, Kinds, Turn};
+use crate::turns::{Ended, Turn};
 use cells::rules::Rule;
 use cells::stores::Store;
 use forwarding::routes::Forwarding;
 use frame::refusals::Refusal;
 use gates::plans::Plan;
+use switch::switches::Kinds;
 use switch::switches::starts::Settings;
 
-// Both runs at their ends.
-#[derive(Drop)]
-pub struct BothEnded<S, P, R, F, T, Q, O, G> {
-    pub one: Ended<S, P, R, F>,
-    pub two: Ended<T, Q, O, G>,
-}
-
-// Two runs with the same settings, each on a new switch of its own.
+// Two runs with the same settings, each on a new switch of its own. Both are answered at their ends.
 pub fn run_twins<
     S: Store + Drop,
     P: Plan + Drop,
@@ -37,12 +31,12 @@ pub fn run_twins<
     two: Kinds<Q, O, G>,
     turns: &mut [Turn<'_>],
     others: &mut [Turn<'_>],
-) -> Result<BothEnded<S, P, R, F, T, Q, O, G>, Refusal>
-    ensures answer { told (λ _. started settings) result ≡ new_answer settings.slot settings.number settings.rate settings.depth }
-    ensures statement { IfOk result (λ e. Twins settings (view S.marks (meant P.fills P.opens R.floors F.forwards one.plan one.rule one.forwarding) turns.old turns.new e.one) (view T.marks (meant Q.fills Q.opens O.floors G.forwards two.plan two.rule two.forwarding) others.old others.new e.two)) }
+) -> Result<(Ended<S, P, R, F>, Ended<T, Q, O, G>), Refusal>
+    ensures answer { told (λ _. started settings) result ≡ new_answer settings.slot settings.number settings.bucket.rate settings.bucket.depth }
+    ensures statement { IfOk result (λ e. Twins settings (view (meant P.fills P.opens R.floors F.forwards one) turns.old turns.new e.0) (view (meant Q.fills Q.opens O.floors G.forwards two) others.old others.new e.1)) }
     ensures kept { (Kept result turns.old turns.new) × (Kept result others.old others.new) }
 {
-    let one: Ended<S, P, R, F> = run(settings, one, turns)?;
-    let two: Ended<T, Q, O, G> = run(settings, two, others)?;
-    Ok(BothEnded { one, two })
+    let one = run(settings, one, turns)?;
+    let two = run(settings, two, others)?;
+    Ok((one, two))
 }

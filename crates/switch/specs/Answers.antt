@@ -1,19 +1,23 @@
 -- What each answer of the switch stands for, and its ticket. Assumes nothing.
-use Rattle.std.specs.Prelude.{Bool, ℕ, List, [], ◌∷◌, Some, None}
+use Rattle.std.specs.Prelude.{Bool, ℕ, List, [], ◌∷◌}
 use Rattle.std.specs.Option.{option_map}
 use Rattle.frame.specs.Classes.{class_number}
 use Rattle.frame.specs.Numbers.{port_number, set_bits, slot_number}
 use Rattle.rules.specs.Switch as definition
+use Rattle.egress.specs.declared.takings.Taking.{Taking}
 use Rattle.switch.specs.declared.answers.Arrived.{Arrived}
 use Rattle.switch.specs.declared.answers.Gauged.{Gauged}
 use Rattle.switch.specs.declared.answers.Returned.{Returned}
 use Rattle.switch.specs.declared.answers.Ticked.{Ticked}
-use Rattle.switch.specs.declared.answers.Took.{Took}
-use Rattle.switch.specs.declared.answers.Took.TheVariants.{Idle, Sending}
+use Rattle.switch.specs.declared.calls.TicketNumbers.{TicketNumbers}
 use Rattle.switch.specs.declared.tickets.Ticket.{Ticket}
 
+-- the ticket of these numbers
+abbrev pub numbered : TicketNumbers → definition.Ticket
+numbered t = record { port = t.port; number = t.number.0; length = t.length }
+
 abbrev pub ticket_of : Ticket → definition.Ticket
-ticket_of t = record { port = t.port; number = t.number.0; length = t.length }
+ticket_of t = numbered t.numbers
 
 -- it was returned, and only such a ticket may be let go
 abbrev pub is_spent : Ticket → Bool
@@ -25,13 +29,12 @@ arrived a = record { number = a.number.0; class = class_number a.class; set = se
 abbrev pub ticked : Ticked → definition.Ticked
 ticked t = record { slot = slot_number t.slot; late = t.late }
 
--- a ticket for a copy at this port, by its number and length
-abbrev pub ticket_for : ℕ → ℕ × ℕ → definition.Ticket
-ticket_for port c = record { port = port; number = c.0; length = c.1 }
+-- what Take answered: what was taken as a ticket, in this view, and how many copies ended as overdrawn
+abbrev pub took_by : {T : Type 0} → (T → definition.Ticket) → Taking T → definition.Took
+took_by view t = record { ticket = option_map view t.taken; overdrawn = t.overdrawn }
 
-abbrev pub took : Took → definition.Took
-took (Sending ticket overdrawn) = record { ticket = Some (ticket_of ticket); overdrawn = overdrawn }
-took (Idle overdrawn) = record { ticket = None; overdrawn = overdrawn }
+abbrev pub took : Taking Ticket → definition.Took
+took t = took_by ticket_of t
 
 abbrev pub returned : Returned → definition.Returned
 returned r = record { port = port_number r.port; number = r.number.0 }

@@ -1,22 +1,20 @@
 -- Calls and answers as data, in the definition's terms. Assumes nothing.
 use Rattle.std.specs.Prelude.{ℕ, List}
-use Rattle.std.specs.Option.{option_map}
 use Rattle.frame.specs.Refusals.{told}
 use Rattle.rules.specs.Runs as definition
 use Rattle.rules.specs.Switch as switch
+use Rattle.egress.specs.declared.takings.Taking.{Taking}
 use Rattle.switch.specs.Answers as answers
+use Rattle.switch.specs.Answers.{numbered, took_by}
 use Rattle.switch.specs.declared.calls.Answer.{Answer}
 use Rattle.switch.specs.declared.calls.Answer.TheVariants.{Arrived, Ticked, Took, Looked, Returned, Cleared}
 use Rattle.switch.specs.declared.calls.Call.{Call}
 use Rattle.switch.specs.declared.calls.Call.TheVariants.{Arrive, Tick, Take, Look, Return, Clear}
-use Rattle.switch.specs.declared.calls.Taken.{Taken}
 use Rattle.switch.specs.declared.calls.TicketNumbers.{TicketNumbers}
 
-abbrev pub numbered : TicketNumbers → switch.Ticket
-numbered t = record { port = t.port; number = t.number.0; length = t.length }
-
-abbrev pub taken : Taken → switch.Took
-taken t = record { ticket = option_map numbered t.ticket; overdrawn = t.overdrawn }
+-- what Take answered, its ticket as numbers
+abbrev pub taken : Taking TicketNumbers → switch.Took
+taken t = took_by numbered t
 
 -- the call, made with a buffer that holds these bytes; only Look sees it
 abbrev pub call_with : Call → List ℕ → definition.Call

@@ -1,5 +1,4 @@
 // What the calls answer.
-use crate::tickets::Ticket;
 use frame::classes::Class;
 use frame::numbers::{FrameNumber, Port, PortSet, Slot};
 
@@ -16,12 +15,6 @@ pub struct Arrived {
 pub struct Ticked {
     pub slot: Slot,
     pub late: u32,
-}
-
-// A copy was taken: its ticket has to be returned. Or there was none to take. So many copies ended as overdrawn.
-pub enum Took {
-    Sending { ticket: Ticket, overdrawn: u32 },
-    Idle { overdrawn: u32 },
 }
 
 // A frame was sent from a port.

@@ -4,7 +4,7 @@ ghost use Rattle.frame.specs.Numbers.{address_bits, port_number, set_bits};
 ghost use Rattle.frame.specs.Refusals.{told};
 ghost use Rattle.switch.specs.Headings.{heading, heading_of, ports_by};
 
-use forwarding::routes::{Forwarding, Route};
+use forwarding::routes::{Forwarding, NoRoute};
 use frame::classes::Class;
 use frame::numbers::{Address, Port, PortSet};
 use frame::readings::read;
@@ -21,7 +21,7 @@ pub(crate) struct Heading {
 pub(crate) fn read_heading(port: u8, bytes: &[u8]) -> Result<Heading, Refusal>
     ensures { told heading result ≡ heading_of port bytes.now }
 {
-    let input = Port::new(port)?;
+    let input = Port::try_from(port)?;
     let frame = read(bytes)?;
     Ok(Heading {
         input,
@@ -37,10 +37,9 @@ pub(crate) fn find_ports<F: Forwarding>(
 ) -> Result<PortSet, Refusal>
     ensures { told set_bits result ≡ ports_by (F.forwards forwarding.now (address_bits heading.destination) (port_number heading.input)) (port_number heading.input) }
 {
-    let port = heading.input.number();
     match forwarding.route(heading.destination, heading.input) {
-        Route::Ports(ports) => Ok(ports),
-        Route::Tap => Err(Refusal::TapPort(port)),
-        Route::Unknown => Err(Refusal::NoWayOut(port)),
+        Ok(ports) => Ok(ports),
+        Err(NoRoute::Tap) => Err(Refusal::TapPort(heading.input)),
+        Err(NoRoute::Unknown) => Err(Refusal::NoWayOut(heading.input)),
     }
 }

@@ -1,5 +1,7 @@
 // What a switch is made of.
-use buffers::buffers::Buffers;
+use cells::stores::Store;
+use egress::pools::Pool;
+use egress::slots::Bucket;
 use frame::numbers::Slot;
 
 pub mod arrivals;
@@ -13,16 +15,20 @@ pub mod starts;
 pub mod takes;
 pub mod ticks;
 
-// A cell is free in the store exactly if no frame with a copy is in it. That ties a store of any kind to the buffers,
-// so it is no invariant of the type: New makes it hold, and every call keeps it.
+// What stands behind a switch beside its store.
 #[derive(Drop)]
-pub struct Switch<S, P, R, F> {
-    store: S,
-    plan: P,
-    rule: R,
-    forwarding: F,
+pub struct Kinds<P, R, F> {
+    pub plan: P,
+    pub rule: R,
+    pub forwarding: F,
+}
+
+// A cell is free in the store exactly if no frame with a copy is in it: that is the pool's invariant, which New makes
+// hold, and every call keeps.
+#[derive(Drop)]
+pub struct Switch<S: Store, P, R, F> {
+    pool: Pool<S>,
+    kinds: Kinds<P, R, F>,
     slot: Slot,
-    rate: u16,
-    depth: u16,
-    buffers: Buffers,
+    bucket: Bucket,
 }

@@ -4,7 +4,7 @@ ghost use Rattle.std.specs.Option.{option_map};
 ghost use Rattle.frame.specs.Numbers.{port_number};
 ghost use Rattle.rules.specs.Copies.{cost};
 ghost use Rattle.rules.specs.Switch.{out_bytes};
-ghost use Rattle.buffers.specs.Queues.{first_of};
+ghost use Rattle.cells.specs.Fifos.{first_of};
 ghost use Rattle.buffers.specs.Holdings.{egress, lengths_at, next_number};
 ghost use Rattle.buffers.specs.Sent.{copy_sent, sent};
 
@@ -22,27 +22,24 @@ impl Buffers {
     pub fn tokens(&self, port: Port) -> u32
         ensures { (d : ℕ) → result ≡ (egress d self.now (port_number port)).tokens }
     {
-        self.board.gauge(port).tokens
+        self.board.port(port).tokens()
     }
 
     // The number that the next frame gets.
     pub fn next(&self) -> u64
         ensures { result ≡ next_number self.now }
     {
-        self.next
+        self.frames.next()
     }
 
     // The copy that is out.
     pub fn out(&self, port: Port) -> Option<Sent>
         ensures { (d : ℕ) → option_map sent result ≡ option_map copy_sent (egress d self.now (port_number port)).out }
     {
-        let Some(copy) = self.board.gauge(port).out else {
-            return None;
-        };
-        let kept = self.frames.get(copy.cell);
+        let copy = self.board.port(port).out()?;
         Some(Sent {
             number: copy.number,
-            length: kept.length,
+            length: self.frames.get(copy.cell).length,
         })
     }
 
@@ -50,7 +47,7 @@ impl Buffers {
     pub fn price(&self, port: Port) -> Option<u32>
         ensures { (d : ℕ) → result ≡ option_map cost (first_of ((egress d self.now (port_number port)).queue 2)) }
     {
-        self.board.price(port)
+        self.board.port(port).price()
     }
 
     // How many copies are in each queue of each port.
@@ -65,10 +62,8 @@ impl Buffers {
         requires { (d : ℕ) → length (out_bytes (egress d self.now (port_number port)).out) ≤ length buffer.old }
         ensures { (d : ℕ) → buffer.new ≡ out_bytes (egress d self.now (port_number port)).out ++ drop (length (out_bytes (egress d self.now (port_number port)).out)) buffer.old }
     {
-        let Some(copy) = self.board.gauge(port).out else {
-            return;
-        };
-        let kept = self.frames.get(copy.cell);
-        self.memory.read(copy.cell, kept.length, buffer);
+        if let Some(copy) = self.board.port(port).out() {
+            self.frames.read(copy.cell, buffer);
+        }
     }
 }

@@ -1,35 +1,42 @@
 // The ring as a store, with its order.
-ghost use Rattle.std.specs.Prelude.{◌≡◌, length};
+ghost use Rattle.std.specs.Prelude.{◌≡◌, ◌<◌, length, map};
+ghost use Rattle.std.specs.Option.{option_map};
 ghost use Rattle.std.proofs.Common.{sym, ap, ◌∙◌};
+ghost use Rattle.frame.specs.Numbers.{cell_number, id_number};
 ghost use Rattle.frame.specs.Refusals.{told};
-ghost use Rattle.cells.specs.Stores.{all_free, cell_number, given_back, held_at, Granted};
+ghost use Rattle.cells.specs.Stores.{all_free, given_back, held_in, Granted};
 ghost use Rattle.cells.specs.Orders.{first_order, granted_first, order, put_last, ring_marks};
 ghost use Rattle.cells.specs.FreeCells.{length_marked};
 
+use crate::fifos::Fifo;
 use crate::rings::Ring;
 use crate::stores::{CELLS, Store};
 use frame::classes::Class;
-use frame::numbers::CellId;
+use frame::numbers::{Cell, CellId};
 use frame::refusals::Refusal;
+use std::array;
+
+// The cell at this place.
+fn cell_at(place: usize) -> Cell
+    requires { place < 32 }
+    ensures { cell_number result ≡ place }
+{
+    Cell::new(place as u8).unwrap()
+}
 
 // The cells, from 0 on.
-fn in_order() -> [u8; CELLS]
-    ensures { result ≡ first_order }
+fn in_order() -> [Cell; CELLS]
+    ensures { map cell_number result ≡ first_order }
 {
-    let mut cells = [0; CELLS];
-    for cell in 0..CELLS {
-        cells[cell] = cell as u8;
-    }
-    cells
+    array::from_fn(cell_at)
 }
 
 impl Ring {
-    // There is such a cell, and it is not free.
-    fn holds(&self, cell: CellId) -> bool
-        ensures { result ≡ held_at (ring_marks self.now) (cell_number cell) }
+    // The cell of this number, if there is one and it is not free.
+    fn held(&self, cell: CellId) -> Option<Cell>
+        ensures { option_map cell_number result ≡ held_in (ring_marks self.now) (id_number cell) }
     {
-        let index = cell.0 as usize;
-        index < CELLS && !self.marks[index]
+        Cell::new(cell.0).filter(|cell| !self.marks[cell.index()])
     }
 }
 
@@ -44,41 +51,35 @@ impl Store for Ring {
     {
         Ring {
             cells: in_order(),
-            head: 0,
-            count: CELLS,
+            free: Fifo::full(),
             marks: [true; CELLS],
         }
     }
 
-    fn grant(&mut self) -> Result<CellId, Refusal>
+    fn grant(&mut self) -> Result<Cell, Refusal>
         ensures answer { Granted (ring_marks self.old) (told cell_number result) (ring_marks self.new) }
         ensures order { (told cell_number result, order self.new) ≡ granted_first (order self.old) }
     {
-        if self.count == 0 {
+        let Some(cell) = self.free.pop(&self.cells) else {
             return Err(Refusal::TooFewCells(Class::BestEffort));
-        }
-        let cell = self.cells[self.head];
-        self.head = (self.head + 1) % CELLS;
-        self.count -= 1;
-        self.marks[cell as usize] = false;
-        Ok(CellId(cell))
+        };
+        self.marks[cell.index()] = false;
+        Ok(cell)
     }
 
     fn give_back(&mut self, cell: CellId) -> Result<(), Refusal>
-        ensures answer { (told (λ u. u) result, ring_marks self.new) ≡ given_back (ring_marks self.old) (cell_number cell) }
-        ensures order { order self.new ≡ put_last (told (λ u. u) result) (order self.old) (cell_number cell) }
+        ensures answer { (told (λ u. u) result, ring_marks self.new) ≡ given_back (ring_marks self.old) (id_number cell) }
+        ensures order { order self.new ≡ put_last (told (λ u. u) result) (order self.old) (id_number cell) }
     {
-        if !self.holds(cell) {
+        let Some(held) = self.held(cell) else {
             return Err(Refusal::CellNotHeld(cell));
-        }
-        let tail = (self.head + self.count) % CELLS;
-        self.cells[tail] = cell.0;
-        self.count += 1;
-        self.marks[cell.0 as usize] = true;
+        };
+        self.free.push(&mut self.cells, held);
+        self.marks[held.index()] = true;
         Ok(())
     }
 
     fn free(&self) -> usize {
-        self.count
+        self.free.len() as usize
     }
 }

@@ -1,77 +1,61 @@
-// Loading an address table, and asking it.
-ghost use Rattle.std.specs.Prelude.{◌≡◌, ◌-◌, ◌^◌, ◌≤◌, length, take, ◌==◌};
+// Filling an address table, and asking it.
+ghost use Rattle.std.specs.Prelude.{◌≡◌, ◌-◌, ◌^◌, [], ◌==◌};
 ghost use Rattle.std.specs.Option.{option_map};
 ghost use Rattle.frame.specs.Refusals.{told};
 ghost use Rattle.frame.specs.Numbers.{address_bits, set_bits};
-ghost use Rattle.forwarding.specs.Rows.{fits_at, first_row, first_wrong};
-ghost use Rattle.forwarding.specs.AddressTables.{used_rows, table_forwards, table_loaded};
+ghost use Rattle.forwarding.specs.Rows.{first_row};
+ghost use Rattle.forwarding.specs.AddressTables.{row_put, table_forwards, table_loaded, used_rows};
 ghost use Rattle.std.proofs.lemmas.Bool.{cond_both};
 ghost use Rattle.frame.specs.Numbers;
 ghost use Rattle.forwarding.specs.Ways.{Proper, to, formed};
 ghost use Rattle.forwarding.specs.Searches.{all_narrow};
 ghost use Rattle.forwarding.specs.Sets.{formed_proper, others_proper};
 
-use crate::address_tables::{AddressTable, BROADCAST, ROWS};
+use crate::address_tables::{AddressTable, BROADCAST};
 use crate::routes::{ALL_PORTS, Forwarding, Route, form};
 use crate::rows::Row;
+use arrayvec::ArrayVec;
 use frame::numbers::{Address, Port, PortSet};
 use frame::refusals::Refusal;
 
-impl Row {
-    // Whether a table can hold this row at this place.
-    fn fits_at(&self, place: usize) -> bool
-        ensures { result ≡ fits_at place self.now }
+impl AddressTable {
+    // A table without rows.
+    pub fn new() -> AddressTable
+        ensures { used_rows result ≡ [] }
     {
-        place < ROWS && self.ports <= ALL_PORTS
-    }
-}
-
-// The place of the first row that a table cannot hold.
-fn first_wrong(rows: &[Row]) -> Option<usize>
-    ensures { result ≡ first_wrong 0 rows.now }
-{
-    for (place, row) in rows.iter().enumerate() {
-        if !row.fits_at(place) {
-            return Some(place);
+        AddressTable {
+            rows: ArrayVec::new(),
         }
     }
-    None
-}
 
-// These rows, and blank ones behind them.
-fn held(rows: &[Row]) -> [Row; ROWS]
-    requires { length rows.now ≤ 12 }
-    ensures { take (length rows.now) result ≡ rows.now }
-{
-    let blank = Row {
-        address: Address::from_bytes([0; 6]),
-        ports: 0,
-    };
-    let mut all = [blank; ROWS];
-    all[0..rows.len()].copy_from_slice(rows);
-    all
-}
+    // Puts a row behind the others. One that the table cannot hold is refused by its place.
+    pub fn add(&mut self, row: Row) -> Result<(), Refusal>
+        ensures { (told (λ _. tt) result, used_rows self.new) ≡ row_put (used_rows self.old) row }
+    {
+        if self.rows.is_full() || row.ports > ALL_PORTS {
+            return Err(Refusal::BadSetting(self.rows.len()));
+        }
+        self.rows.push(row);
+        Ok(())
+    }
 
-impl AddressTable {
     // The table of these rows. The place of the first row that it cannot hold is refused.
     pub fn load(rows: &[Row]) -> Result<AddressTable, Refusal>
         ensures { told table_forwards result ≡ table_loaded rows.now }
     {
-        if let Some(place) = first_wrong(rows) {
-            return Err(Refusal::BadSetting(place));
+        let mut table = AddressTable::new();
+        for row in rows {
+            table.add(*row)?;
         }
-        Ok(AddressTable {
-            rows: held(rows),
-            used: rows.len(),
-        })
+        Ok(table)
     }
 
-    // The set of the first row with this address.
+    // The set of the first row with this address. By the project's rule for look-ups, a loop that the first hit leaves.
     fn row_for(&self, destination: Address) -> Option<PortSet>
         ensures { option_map set_bits result ≡ first_row (used_rows self.now) (address_bits destination) }
     {
-        for row in &self.rows[0..self.used] {
-            if row.address.bits() == destination.bits() {
+        for row in self.rows.as_slice() {
+            if row.address == destination {
                 return PortSet::new(row.ports);
             }
         }
@@ -89,7 +73,7 @@ impl Forwarding for AddressTable {
 
     fn route(&self, destination: Address, input: Port) -> Route {
         if destination.bits() == BROADCAST {
-            return Route::Ports(PortSet::others(input));
+            return Ok(PortSet::others(input));
         }
         form(self.row_for(destination), input)
     }

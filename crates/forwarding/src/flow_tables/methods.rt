@@ -66,7 +66,7 @@ impl FlowTable {
     pub fn set_flow(&mut self, flow: u16, ports: u8) -> Result<(), Refusal>
         ensures { (told (λ _. tt) result, flow_set self.new) ≡ flow_put (flow_set self.old) flow ports }
     {
-        let flow = flow as usize;
+        let flow = usize::from(flow);
         if flow >= FLOWS {
             return Err(Refusal::BadSetting(0));
         }
@@ -81,10 +81,7 @@ impl FlowTable {
     fn row_for(&self, destination: Address) -> Option<PortSet>
         ensures { option_map set_bits result ≡ flow_row (flow_set self.now (flow_of (address_bits destination))) }
     {
-        match self.sets.get(flow_of(destination)) {
-            NO_PORTS => None,
-            ports => PortSet::new(ports),
-        }
+        PortSet::new(self.sets.get(flow_of(destination))).filter(|set| !set.is_empty())
     }
 }
 

@@ -6,8 +6,12 @@ ghost use Rattle.frame.specs.Refusals.{told};
 use crate::numbers::Port;
 use crate::refusals::Refusal;
 
-impl Port {
-    pub fn new(number: u8) -> Result<Port, Refusal>
+impl TryFrom<u8> for Port {
+    type Error = Refusal;
+
+    ghost try_from_gives = { λ number r. told port_number r ≡ port_named number };
+
+    fn try_from(number: u8) -> Result<Port, Refusal>
         ensures { told port_number result ≡ port_named number }
     {
         if number > 3 {
@@ -15,6 +19,16 @@ impl Port {
         }
         Ok(Port { number })
     }
+}
+
+impl Port {
+    // All four, in their order.
+    pub const ALL: [Port; 4] = [
+        Port { number: 0 },
+        Port { number: 1 },
+        Port { number: 2 },
+        Port { number: 3 },
+    ];
 
     pub fn number(self) -> u8
         ensures { result ≡ port_number self }

@@ -6,18 +6,29 @@ ghost use Rattle.frame.specs.Numbers.{queue_number, below};
 use crate::numbers::Queue;
 
 impl Queue {
+    // All four, in their order.
+    pub const ALL: [Queue; 4] = [
+        Queue::Cyclic0,
+        Queue::Cyclic1,
+        Queue::Paid,
+        Queue::BestEffort,
+    ];
+
     pub fn new(number: u8) -> Option<Queue>
         ensures { option_map queue_number result ≡ below 4 number }
     {
-        if number > 3 {
-            return None;
+        match number {
+            0 => Some(Queue::Cyclic0),
+            1 => Some(Queue::Cyclic1),
+            2 => Some(Queue::Paid),
+            3 => Some(Queue::BestEffort),
+            _ => None,
         }
-        Some(Queue { number })
     }
 
     pub fn number(self) -> u8
         ensures { result ≡ queue_number self }
     {
-        self.number
+        self as u8
     }
 }

@@ -1,18 +1,21 @@
-// Where the bytes of a list are wrong, before one is made of them.
-ghost use Rattle.std.specs.Prelude.{◌≡◌, ◌<◌, length};
+// Where the entries of a list are wrong, before one is made of them.
+ghost use Rattle.std.specs.Prelude.{◌≡◌, ◌<◌, length, ◌==◌};
+ghost use Rattle.frame.specs.Numbers.{queue_number};
 ghost use Rattle.gates.specs.GateLists.{entry_bit, first_from, first_wrong, wrong_at};
 
 use crate::gate_lists::{FEWEST, MOST};
+use arrayvec::ArrayVec;
+use frame::numbers::Queue;
 
 // The entry that opens all four queues; in a greater one a bit is set that no queue has.
 const ALL_OPEN: u8 = 15;
 
 // The place where the list is wrong first, if it is.
-pub(super) fn first_wrong(entries: &[u8]) -> Option<usize>
-    ensures { result ≡ first_wrong entries.now }
+pub(super) fn first_wrong(entries: &ArrayVec<u8, MOST>) -> Option<usize>
+    ensures { result ≡ first_wrong entries.now.items }
 {
     let count = entries.len();
-    if count < FEWEST || count > MOST || count % 2 != 0 {
+    if count < FEWEST || count % 2 != 0 {
         return Some(count);
     }
     first_wrong_entry(entries)
@@ -21,12 +24,7 @@ pub(super) fn first_wrong(entries: &[u8]) -> Option<usize>
 fn first_wrong_entry(entries: &[u8]) -> Option<usize>
     ensures { result ≡ first_from (wrong_at entries.now) 0 (length entries.now) }
 {
-    for place in 0..entries.len() {
-        if is_wrong(entries, place) {
-            return Some(place);
-        }
-    }
-    None
+    (0..entries.len()).find(|&place| is_wrong(entries, place))
 }
 
 fn is_wrong(entries: &[u8], place: usize) -> bool
@@ -34,16 +32,14 @@ fn is_wrong(entries: &[u8], place: usize) -> bool
     ensures { result ≡ wrong_at entries.now place }
 {
     let entry = entries[place];
-    if entry > ALL_OPEN || bit(entry, 0) == bit(entry, 1) {
-        return true;
-    }
-    place > 0 && bit(entry, 0) == bit(entries[place - 1], 0)
+    entry > ALL_OPEN
+        || opens(entry, Queue::Cyclic0) == opens(entry, Queue::Cyclic1)
+        || place > 0 && opens(entry, Queue::Cyclic0) == opens(entries[place - 1], Queue::Cyclic0)
 }
 
-// The bit of the entry that opens the queue.
-pub(super) fn bit(entry: u8, queue: u8) -> u8
-    requires { queue < 4 }
-    ensures { result ≡ entry_bit entry queue }
+// Whether the entry opens the queue.
+pub(super) fn opens(entry: u8, queue: Queue) -> bool
+    ensures { result ≡ (entry_bit entry (queue_number queue) == 1) }
 {
-    (entry >> queue) % 2
+    (entry >> queue.number()) % 2 == 1
 }

@@ -1,15 +1,15 @@
 // Loading a list, and reading it.
-ghost use Rattle.std.specs.Prelude.{◌≡◌, ◌≤◌, length, take};
+ghost use Rattle.std.specs.Prelude.{◌≡◌};
 ghost use Rattle.frame.specs.Numbers.{slot_number};
 ghost use Rattle.frame.specs.Refusals.{told};
 ghost use Rattle.gates.specs.GateLists.{entry_in, list_fills, list_opens};
 ghost use Rattle.gates.specs.Loads.{listed, load_as};
-ghost use Rattle.gates.specs.Alternation.{good, list_turns, list_shut, list_sends};
-ghost use Rattle.std.proofs.Common.{rules, arith};
+ghost use Rattle.gates.specs.Alternation.{good, list_pair, list_turns, list_shut, list_sends};
 
-use crate::gate_lists::judging::{bit, first_wrong};
-use crate::gate_lists::{GateList, MOST};
-use crate::plans::{Plan, one_of_pair};
+use crate::gate_lists::GateList;
+use crate::gate_lists::judging::{first_wrong, opens};
+use crate::plans::Plan;
+use arrayvec::ArrayVec;
 use frame::numbers::{Queue, Slot};
 use frame::refusals::Refusal;
 
@@ -18,31 +18,20 @@ impl GateList {
     pub fn load(entries: &[u8]) -> Result<GateList, Refusal>
         ensures { told listed result ≡ load_as entries.now }
     {
-        if let Some(place) = first_wrong(entries) {
-            return Err(Refusal::BadSetting(place));
+        let entries = ArrayVec::try_from(entries).map_err(|_| Refusal::BadSetting(entries.len()))?;
+        match first_wrong(&entries) {
+            Some(place) => Err(Refusal::BadSetting(place)),
+            None => Ok(GateList { entries }),
         }
-        Ok(GateList {
-            bytes: padded(entries),
-            count: entries.len(),
-        })
     }
 
     // The entry that the slot reads.
     fn entry(&self, slot: Slot) -> u8
         ensures { result ≡ entry_in (listed self.now) (slot_number slot) }
     {
-        self.bytes[(slot.number() % self.count as u64) as usize]
+        let place = slot.number() % self.entries.len() as u64;
+        self.entries[place as usize]
     }
-}
-
-// The entries, at the front of a list's memory.
-fn padded(entries: &[u8]) -> [u8; MOST]
-    requires { length entries.now ≤ 1024 }
-    ensures { take (length entries.now) result ≡ entries.now }
-{
-    let mut bytes = [0; MOST];
-    bytes[0..entries.len()].copy_from_slice(entries);
-    bytes
 }
 
 impl Plan for GateList {
@@ -50,7 +39,7 @@ impl Plan for GateList {
 
     ghost opens = { λ l. list_opens (listed l) };
 
-    ghost pair = { first_of (Prim.search rules, Prim.grind (arith, Self.row.coded.inj)) };
+    ghost pair = { λ p s h. list_pair (listed p) s };
 
     ghost turns = { λ p s h. list_turns (listed p) (good (listed p) p.good) s };
 
@@ -59,10 +48,14 @@ impl Plan for GateList {
     ghost sends = { λ p s h. list_sends (listed p) (good (listed p) p.good) s };
 
     fn fill(&self, slot: Slot) -> Queue {
-        one_of_pair(bit(self.entry(slot), 0))
+        if opens(self.entry(slot), Queue::Cyclic0) {
+            Queue::Cyclic1
+        } else {
+            Queue::Cyclic0
+        }
     }
 
     fn is_open(&self, slot: Slot, queue: Queue) -> bool {
-        bit(self.entry(slot), queue.number()) == 1
+        opens(self.entry(slot), queue)
     }
 }

@@ -1,55 +1,74 @@
 // The word and the numbers of an outcome.
-ghost use Rattle.std.specs.Prelude.{◌≡◌, ◌≤◌, ◌∷◌, length, take};
+ghost use Rattle.std.specs.Prelude.{◌≡◌, ◌∷◌};
 ghost use Rattle.lines.specs.Lines.{values, word};
 ghost use Rattle.lines.specs.Outcomes.{outcome};
 
 use crate::outcomes::Outcome;
+use arrayvec::ArrayVec;
 
 // The most numbers of a line.
-pub(crate) const VALUES: usize = 3;
+const VALUES: usize = 3;
 
 impl Outcome {
     // A space and the word.
-    pub fn word(&self) -> &'static [u8]
+    pub fn word(&self) -> &'static str
         ensures { result.now ≡ 32 ∷ word (outcome self.now) }
     {
         match self {
-            Outcome::New => b" new",
-            Outcome::Laid { .. } => b" laid",
-            Outcome::Slot { .. } => b" slot",
-            Outcome::Sent { .. } => b" sent",
-            Outcome::Idle { .. } => b" idle",
-            Outcome::Cleared { .. } => b" cleared",
-            Outcome::Refused(_) => b" refused",
-            Outcome::Fault(_) => b" fault",
+            Outcome::New => " new",
+            Outcome::Laid { .. } => " laid",
+            Outcome::Slot { .. } => " slot",
+            Outcome::Sent { .. } => " sent",
+            Outcome::Idle { .. } => " idle",
+            Outcome::Cleared { .. } => " cleared",
+            Outcome::Refused(_) => " refused",
+            Outcome::Fault(_) => " fault",
         }
     }
 
-    // The numbers, at the front, and how many they are.
-    pub fn values(&self) -> ([u64; VALUES], usize)
-        ensures few { result.1 ≤ length result.0 }
-        ensures values { take result.1 result.0 ≡ values (outcome self.now) }
+    // The numbers.
+    pub fn values(&self) -> ArrayVec<u64, VALUES>
+        ensures { result.items ≡ values (outcome self.now) }
     {
+        let mut values = ArrayVec::new();
         match *self {
-            Outcome::New => ([0, 0, 0], 0),
+            Outcome::New => {}
             Outcome::Laid {
                 number,
                 class,
                 ports,
-            } => (
-                [number.0, u64::from(class.number()), u64::from(ports.bits())],
-                3,
-            ),
-            Outcome::Slot { slot, late } => ([slot.number(), u64::from(late), 0], 2),
+            } => {
+                values.push(number.0);
+                values.push(u64::from(class.number()));
+                values.push(u64::from(ports.bits()));
+            }
+            Outcome::Slot { slot, late } => {
+                values.push(slot.number());
+                values.push(u64::from(late));
+            }
             Outcome::Sent {
                 port,
                 number,
                 overdrawn,
-            } => ([u64::from(port), number.0, u64::from(overdrawn)], 3),
-            Outcome::Idle { port, overdrawn } => ([u64::from(port), u64::from(overdrawn), 0], 2),
-            Outcome::Cleared { port, count } => ([u64::from(port), u64::from(count), 0], 2),
-            Outcome::Refused(refusal) => ([u64::from(refusal.number()), 0, 0], 1),
-            Outcome::Fault(refusal) => ([u64::from(refusal.number()), refusal.value(), 0], 2),
+            } => {
+                values.push(u64::from(port));
+                values.push(number.0);
+                values.push(u64::from(overdrawn));
+            }
+            Outcome::Idle { port, overdrawn } => {
+                values.push(u64::from(port));
+                values.push(u64::from(overdrawn));
+            }
+            Outcome::Cleared { port, count } => {
+                values.push(u64::from(port));
+                values.push(u64::from(count));
+            }
+            Outcome::Refused(refusal) => values.push(u64::from(refusal.number())),
+            Outcome::Fault(refusal) => {
+                values.push(u64::from(refusal.number()));
+                values.push(refusal.value());
+            }
         }
+        values
     }
 }

@@ -7,22 +7,19 @@ ghost use Rattle.switch.specs.Switches.{state};
 
 use crate::answers::Gauged;
 use crate::switches::Switch;
+use cells::stores::Store;
 use frame::numbers::Port;
 use frame::refusals::Refusal;
 
-impl<S, P, R, F> Switch<S, P, R, F> {
+impl<S: Store, P, R, F> Switch<S, P, R, F> {
     // The tokens of a port, and the frame that is out there.
     pub fn gauge(&self, port: u8) -> Result<Gauged, Refusal>
         ensures { told gauged result ≡ gauge_answer (state self.now) port }
     {
-        let port = Port::new(port)?;
-        let tokens = self.buffers.tokens(port);
-        let Some(sent) = self.buffers.out(port) else {
-            return Ok(Gauged { tokens, out: None });
-        };
+        let port = Port::try_from(port)?;
         Ok(Gauged {
-            tokens,
-            out: Some(sent.number),
+            tokens: self.pool.buffers.tokens(port),
+            out: self.pool.buffers.out(port).map(|sent| sent.number),
         })
     }
 
@@ -30,7 +27,6 @@ impl<S, P, R, F> Switch<S, P, R, F> {
     pub fn standing(&self) -> [[u32; 4]; 4]
         ensures { result ≡ standing_rows (state self.now) }
     {
-        let rows = self.buffers.lengths();
-        rows
+        self.pool.buffers.lengths()
     }
 }

@@ -1,36 +1,43 @@
-use Rattle.std.proofs.Common.{◌≡◌, sym, ap, ◌∙◌, arith}
+use Rattle.std.proofs.Common.{◌≡◌, ◌+◌, refl, sym, ap, ◌∙◌, subst, arith}
 use Rattle.buffers.specs.Holdings.{egress, frame_at}
-use Rattle.frame.specs.Numbers.{port_number}
-use Rattle.frame.specs.Refusals.{told}
-use Rattle.rules.proofs.Checks.{named_is}
-use Rattle.egress.proofs.Laid.{laid_cells, laying_none, laying_on}
+use Rattle.buffers.specs.declared.buffers.Buffers.{Buffers}
+use Rattle.frame.proofs.Ports.{at_place}
+use Rattle.frame.specs.Numbers.{cell_number, queue_number, set_bits}
+use Rattle.egress.proofs.Laid.{Laying, laid_cells, laying_none, laying_on, left_out, put_in}
 use Rattle.egress.specs.Ports.{each_port, laid_in}
 use Rattle.egress.proofs.layings.lay_copies.Goals as goal
+use Rattle.egress.proofs.layings.lay_copies.Goals.{then-has, else-has}
 
-pub loop-number-init : goal.loop-number-init
-loop-number-init c = laying_none c.args.buffers.now c.args.ports.bits c.args.queue.number c.args.cell.0 c.requires.copies
+pub loop-port-init : goal.loop-port-init
+loop-port-init c = (record { numbers = refl }, laying_none c.args.buffers.now _ _ (cell_number c.args.cell) c.requires.copies)
 
-pub lay_at-requires : goal.lay_at-requires
-lay_at-requires c =
-    let port = (named_is c.loop-number.number c.unwrap.result.number (sym (ap (told port_number) c.unwrap.ensures) ∙ c.new.ensures)).1 in
+pub lay-requires : goal.lay-requires
+lay-requires c =
+    let so_far = c.loop-port.invariant.1 in
+    let port = at_place c.loop-port.invariant.0 c.loop-port.port-index c.port-item.result c.loop-port-test.true in
     record {
-      cell = c.requires.cell;
-      filled = ap (λ f. f c.args.cell.0) c.loop-number.invariant.filled ∙ c.requires.filled;
-      copies = c.loop-number.invariant.copies c.unwrap.result.number (omega (arith, port)) c.unwrap.result.within;
+      filled = ap (λ f. f (cell_number c.args.cell)) so_far.filled ∙ c.requires.filled;
+      copies = so_far.copies _ (omega (arith, port)) (omega (arith, port, c.loop-port-test.true));
     }
 
-pub loop-number-preserved : goal.loop-number-preserved
-loop-number-preserved c =
-    let port = (named_is c.loop-number.number c.unwrap.result.number (sym (ap (told port_number) c.unwrap.ensures) ∙ c.new.ensures)).1 in
-    let lay = c.lay_at.ensures in
-    laying_on c.unwrap.result.number c.loop-number.invariant port (record { ports = lay.state; cells = lay.cells; number = lay.number; frames = lay.frames; copies = lay.copies })
+pub loop-port-preserved : goal.loop-port-preserved
+loop-port-preserved c =
+    let so_far = c.loop-port.invariant.1 in
+    let port = at_place c.loop-port.invariant.0 c.loop-port.port-index c.port-item.result c.loop-port-test.true in
+    let on : Buffers → Type 0 = λ b. Laying c.args.buffers.now b (set_bits c.args.ports) (queue_number c.args.queue) (cell_number c.args.cell) (c.loop-port.port-index + 1) in
+    elim c.if-has.branch [
+      | then-has w ↦
+          let lay = w.lay.ensures in
+          (c.loop-port.invariant.0, subst on (sym w.buffers-is) (laying_on _ so_far port (put_in (sym w.if-has.ensures) lay.state lay.cells lay.kept lay.copies)))
+      | else-has w ↦ (c.loop-port.invariant.0, subst on (sym w.buffers-is) (laying_on _ so_far port (left_out c.loop-port.buffers (sym w.if-has.ensures))))
+    ]
 
 pub returns : goal.returns
 returns c =
-    let four : c.loop-number.number ≡ 4 = omega arith in
-    let laid = c.loop-number.invariant in
+    let four : c.loop-port.port-index ≡ 4 = omega arith in
+    let laid = c.loop-port.invariant.1 in
     record {
-      state = λ d. laid.ports d ∙ (λ i. each_port (laid_in c.args.ports.bits c.args.queue.number (frame_at c.args.buffers.now c.args.cell.0)) (four i) (egress d c.args.buffers.now));
+      state = λ d. laid.ports d ∙ (λ i. each_port (laid_in (set_bits c.args.ports) (queue_number c.args.queue) (frame_at c.args.buffers.now (cell_number c.args.cell))) (four i) (egress d c.args.buffers.now));
       cells = λ p low. laid_cells laid p (omega arith);
       number = laid.number;
       frames = laid.frames;

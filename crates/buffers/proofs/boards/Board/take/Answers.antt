@@ -1,12 +1,8 @@
-use Rattle.std.proofs.Common.{ap, ◌∙◌, arith}
+use Rattle.std.proofs.Common.{arith}
 use Rattle.frame.specs.Numbers.{queue_number}
 use Rattle.buffers.specs.Lines.{outed}
-use Rattle.buffers.proofs.FourPorts.{line_changed, line_read}
+use Rattle.buffers.proofs.FourPorts.{line_changed}
 use Rattle.buffers.proofs.boards.Board.take.Goals as goal
-
-pub take-requires : goal.take-requires
-take-requires c =
-    ap (λ l. l.out) (line_read c.args.self.now.ports c.index-self-number.result _ _ c.number.ensures (omega arith)) ∙ c.requires
 
 pub returns : goal.returns
 returns c =

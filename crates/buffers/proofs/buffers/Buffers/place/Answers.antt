@@ -1,43 +1,35 @@
-use Rattle.std.proofs.Common.{◌+◌, ltb, length, get_or, sym, refl, ap, ◌∙◌, subst}
+use Rattle.std.proofs.Common.{ltb, length, sym, refl, ap, ◌∙◌, subst}
 use Rattle.std.proofs.lemmas.Bool.{lt-ltb}
-use Rattle.frame.specs.Classes.{class_number}
-use Rattle.rules.specs.Copies.{cost}
-use Rattle.buffers.proofs.Placing.{frame_placed, not_at, sound_placed, view_kept}
+use Rattle.frame.specs.Numbers.{cell_number}
+use Rattle.buffers.proofs.Placing.{sound_placed, view_kept}
 use Rattle.buffers.proofs.Soundness.{Sound, put_other, put_same}
 use Rattle.buffers.specs.Boards.{lines}
-use Rattle.buffers.specs.Entries.{egress_of, frame_in}
-use Rattle.buffers.specs.Notes.{Note, notes}
+use Rattle.buffers.specs.Entries.{egress_of}
+use Rattle.buffers.specs.Holdings.{frame_at}
 use Rattle.buffers.proofs.buffers.Buffers.place.Goals as goal
 
 pub invariant_of-self : goal.invariant_of-self
 invariant_of-self c =
     let b = c.args.self.now in
-    let m = c.write.new.self in
-    let f = c.args.frame.now in
-    let cell = c.args.cell.0 in
-    let note : Note = record { number = b.next; length = length f; class = class_number c.args.class; cost = c.cost_of-cost.result } in
-    let is = frame_placed b m cell note c.requires.unused c.write.ensures.others f refl c.write.ensures.own in
-    let costs = c.cost_of-cost.ensures ∙ ap cost (sym is) in
-    let s = subst
-    (λ ns. Sound (lines b.board) m ns (λ q. get_or b.counts q 0) (b.next + 1))
-    (sym c.put.ensures)
-    (sound_placed b m cell note c.requires.unused c.write.ensures.others c.requires.some c.requires.short refl c.requires.numbers costs (ap (λ x. length x.bytes) is)) in
-    record { wide = b.wide; counted = s.counted; known = s.known; once = s.once; priced = s.priced; short = s.short; costed = s.costed; long = s.long; apart = s.apart; young = s.young; last = s.last }
+    subst (λ frames. Sound (lines b.board) frames b.counts) (sym c.place.ensures.state) (sound_placed b (cell_number c.args.cell) _ c.requires.unused)
 
-pub returns : goal.returns
-returns c =
+pub returns-clause-state : goal.returns-clause-state
+returns-clause-state c d =
     let b = c.args.self.now in
-    let m = c.write.new.self in
-    let f = c.args.frame.now in
-    let cell = c.args.cell.0 in
-    let note : Note = record { number = b.next; length = length f; class = class_number c.args.class; cost = c.cost_of-cost.result } in
-    record {
-      answer = refl;
-      state = λ d. (λ i. egress_of d m (c.put.ensures i) (lines b.board)) ∙ view_kept b m cell note c.requires.unused c.write.ensures.others d;
-      cells = refl;
-      number = refl;
-      frame = (λ i. frame_in m (c.put.ensures i) cell) ∙ frame_placed b m cell note c.requires.unused c.write.ensures.others f refl c.write.ensures.own;
-      others = λ q other. ap (λ ns. (ns q).number) c.put.ensures ∙ ap (λ n. n.number) (put_other (notes b.frames) cell note q other);
-      filled = (λ i. ltb 0 (c.put.ensures i cell).length) ∙ ap (λ n. ltb 0 n.length) (put_same (notes b.frames) cell note cell refl) ∙ lt-ltb 0 (length f) c.requires.some;
-      copies = not_at b m cell note c.requires.unused c.write.ensures.others;
-    }
+    ap (λ frames. egress_of d frames (lines b.board)) c.place.ensures.state ∙ view_kept b (cell_number c.args.cell) _ c.requires.unused d
+
+pub returns-clause-frame : goal.returns-clause-frame
+returns-clause-frame c =
+    let cell = cell_number c.args.cell in
+    ap (λ frames. frames cell) c.place.ensures.state ∙ put_same (frame_at c.args.self.now) cell _ cell refl
+
+pub returns-clause-others : goal.returns-clause-others
+returns-clause-others c q other =
+    ap (λ frames. (frames q).number) c.place.ensures.state ∙ ap (λ f. f.number) (put_other (frame_at c.args.self.now) (cell_number c.args.cell) _ q other)
+
+pub returns-clause-filled : goal.returns-clause-filled
+returns-clause-filled c =
+    let cell = cell_number c.args.cell in
+    ap (λ frames. ltb 0 (length (frames cell).bytes)) c.place.ensures.state
+    ∙ ap (λ f. ltb 0 (length f.bytes)) (put_same (frame_at c.args.self.now) cell _ cell refl)
+    ∙ lt-ltb 0 _ c.requires.some

@@ -1,18 +1,11 @@
-use Rattle.std.proofs.Common.{◌≡◌, ◌+◌, ◌-◌, ◌*◌, ◌≤◌, length, ap, ◌∙◌, arith, rules}
-use Rattle.buffers.proofs.Parts.{other_part, own_part}
+use Rattle.std.proofs.Common.{◌≡◌, ◌+◌, ◌-◌, ◌*◌, ◌≤◌, length, ap, ◌∙◌, arith}
+use Rattle.buffers.proofs.Parts.{other_part}
 use Rattle.buffers.proofs.memories.Memory.write.Goals as goal
 
-pub returns : goal.returns
-returns c =
+pub returns-clause-others : goal.returns-clause-others
+returns-clause-others c q n other =
     let xs = c.args.self.now.bytes in
-    let f = c.args.frame.now in
-    let cell = c.args.cell.0 in
-    let ys = c.copy_from_slice.new.self in
-    let inside : cell * 1536 ≤ length xs = search rules in
-    let same : ys ≡ f = c.copy_from_slice.ensures.after in
-    let k = cell * 1536 + length f - cell * 1536 in
-    let long : length ys ≡ k = omega (arith, ap length same) in
-    record {
-      own = own_part xs ys cell k inside long (length f) (ap length same) ∙ same;
-      others = other_part xs ys cell k inside long (omega (arith, c.requires));
-    }
+    let at = c.index-at.result in
+    let inside : at * 1536 ≤ length xs = omega (arith, c.index-at.ensures, c.args.cell.within) in
+    let long : length c.copy_from_slice.new.self ≡ at * 1536 + length c.args.frame.now - at * 1536 = omega (arith, ap length c.copy_from_slice.ensures.after) in
+    other_part xs c.copy_from_slice.new.self at _ inside long (omega (arith, c.requires)) q n (λ same. other (same ∙ c.index-at.ensures))

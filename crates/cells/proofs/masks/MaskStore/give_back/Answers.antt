@@ -1,22 +1,18 @@
-use Rattle.std.proofs.Common.{◌+◌, ◌^◌, ◌<◌, sym, ap, ◌∙◌, arith}
-use Rattle.std.proofs.lemmas.Nat.{one_shl}
+use Rattle.std.proofs.Common.{◌<◌, true, set, w32, ap, ◌∙◌, arith}
+use Rattle.std.specs.Bool.{◌==◌}
+use Rattle.std.proofs.lemmas.Nat.Bits.{bit_at_set_same, bit_at_set_other}
 use Rattle.cells.specs.Masks.{digits}
-use Rattle.cells.specs.Digits.{digit_fits, digits_set}
-use Rattle.cells.specs.Marks.{back_made, held_parts}
+use Rattle.cells.specs.Digits.{digits_but_one}
+use Rattle.cells.specs.Marks.{back_made}
+use Rattle.cells.proofs.Granting.{held_some}
 use Rattle.cells.proofs.masks.MaskStore.give_back.Goals as goal
-
-pub overflow_add-self : goal.overflow_add-self
-overflow_add-self c =
-    let n = c.args.self.now.bits in
-    let k = c.args.cell.0 in
-    let held = held_parts (digits 32 n) k (sym c.if-not-holds.ensures) in
-    let fits : n < 2 ^ 32 = omega arith in
-    omega (arith, one_shl k 32 held.0, digit_fits 32 n k fits held.0 held.1)
 
 pub returns : goal.returns
 returns c =
     let n = c.args.self.now.bits in
     let k = c.args.cell.0 in
-    let is = sym c.if-not-holds.ensures in
-    let held = held_parts (digits 32 n) k is in
-    record { answer = back_made _ _ k is (ap (λ x. digits 32 (n + x)) (one_shl k 32 held.0) ∙ digits_set 32 n k held.1) }
+    let found = held_some (digits 32 n) k _ c.in-Some.ensures in
+    let j = c.index.result in
+    let within : j < 32 = omega (arith, c.index.ensures, c.in-Some.held.within) in
+    let put = digits_but_one 32 n _ j true within (ap (λ b. b == 1) (bit_at_set_same w32 n j within)) (λ i l other. bit_at_set_other w32 n j within i other) in
+    record { answer = back_made (digits 32 n) _ k found.1 (put ∙ ap (λ i. set (digits 32 n) i true) (c.index.ensures ∙ found.0)) }

@@ -1,17 +1,15 @@
-use Rattle.std.proofs.Common.{sym, ◌∙◌, zero-add, arith, length-set, ext_get_or}
-use Rattle.std.specs.List.{range_with_len}
-use Rattle.std.proofs.lemmas.List.FromFn.{get_or-range_with_len}
-use Rattle.std.proofs.lemmas.List.Edits.{fill_by_more}
+use Rattle.std.proofs.Common.{◌≡◌, ℕ, ◌<◌, ◌∙◌, arith, rules, get_or}
+use Rattle.std.proofs.Math.ListN.{get_or-map, length-map}
+use Rattle.std.proofs.lemmas.List.FromFn.{fill_by_all}
+use Rattle.frame.specs.Numbers.{cell_number}
+use Rattle.frame.specs.declared.numbers.Cell.{Cell}
 use Rattle.cells.specs.Orders.{first_order}
 use Rattle.cells.proofs.rings.methods.in_order.Goals as goal
-
-pub loop-cell-preserved : goal.loop-cell-preserved
-loop-cell-preserved c =
-    let inv = c.loop-cell.invariant in
-    (length-set _ _ _ ∙ inv.0, fill_by_more (λ k. k) c.loop-cell.cells c.loop-cell.cell 0 (omega arith) inv.1)
 
 pub returns : goal.returns
 unfolding first_order
 returns c =
-    let inv = c.loop-cell.invariant in
-    ext_get_or 0 c.loop-cell.cells (range_with_len 0 32) inv.0 (λ k l. inv.1 k (omega arith) ∙ sym (get_or-range_with_len 0 32 k 0 (omega arith) ∙ zero-add k))
+    let cells = c.from_fn.result in
+    let first : Cell = record { number = 0; within = omega arith } in
+    let each : (i : ℕ) → i < 32 → cell_number (get_or cells i first) ≡ i = λ i l. let called = c.from_fn.ensures.items.at i first l in search rules in
+    fill_by_all (λ i. i) _ 32 0 (length-map cells cell_number ∙ c.from_fn.ensures.items.long) (λ i l. get_or-map cell_number cells i first ∙ each i l)

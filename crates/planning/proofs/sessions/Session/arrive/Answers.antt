@@ -1,11 +1,15 @@
-use Rattle.std.proofs.Common.{[], ◌∷◌, sym, refl, ap, ◌∙◌}
-use Rattle.lines.specs.Lines.{laid}
-use Rattle.switch.proofs.Called.{called_arrive}
-use Rattle.planning.proofs.Performances.{performed_one}
-use Rattle.planning.specs.Schedules.{by_answer}
+use Rattle.std.proofs.Common.{Ok, Err, refl}
+use Rattle.std.proofs.lemmas.Result.{err_from_is_err_and}
+use Rattle.planning.proofs.Performances.{performed_arrive}
 use Rattle.planning.proofs.sessions.Session.arrive.Goals as goal
+
+pub returns-in_err-number : goal.returns-in_err-number
+returns-in_err-number g c =
+    let r = err_from_is_err_and c.from_residual.result c.from_residual.ensures.1 in
+    let call = c.in_err-number.ensures in
+    rw (r.1, r.2) (performed_arrive g.F.Forwarding.forwards c.args.self.now _ c.args.port c.args.frame.now (Err c.in_err-number.field-0.0) call.answer call.state call.contents call.kept call.addressed call.kinds refl)
 
 pub returns : goal.returns
 returns g c =
-    let call = c.arrive.ensures in
-    performed_one g.F.Forwarding.forwards c.args.self.now _ _ _ (called_arrive c.arrive.result c.args.port c.args.frame.now call.answer call.state call.contents call.kept call.sound call.addressed) call.kinds refl (ap (λ t. by_answer (λ a. laid a.number a.class a.set) t ∷ []) (sym call.answer) ∙ ap (λ o. o ∷ []) (sym c.tell_arrived.ensures))
+    let call = c.in_ok-number.ensures in
+    performed_arrive g.F.Forwarding.forwards c.args.self.now _ c.args.port c.args.frame.now (Ok c.in_ok-number.field-0) call.answer call.state call.contents call.kept call.addressed call.kinds refl

@@ -1,25 +1,30 @@
-use Rattle.std.proofs.Common.{sym, refl, arith}
-use Rattle.cells.specs.Marks.{back_made}
-use Rattle.cells.specs.FreeCells.{given, ring_sound}
+use Rattle.std.proofs.Common.{◌≡◌, ◌+◌, ◌++◌, [], ◌∷◌, true, length, set, sym, ap, ◌∙◌, arith}
+use Rattle.std.proofs.lemmas.List.{length_push}
+use Rattle.frame.specs.Numbers.{cell_number}
+use Rattle.cells.specs.FreeCells.{given}
+use Rattle.cells.specs.Orders.{order}
+use Rattle.cells.specs.Rings.{marked}
+use Rattle.cells.specs.Stores.{free_count}
+use Rattle.cells.specs.Fifos.{queued}
+use Rattle.cells.proofs.Granting.{held_some, length_order, order_pushed, ring_sound}
 use Rattle.cells.proofs.rings.methods.RingStore.give_back.Goals as goal
 
-pub overflow_add-tail : goal.overflow_add-tail
-overflow_add-tail c =
-    let g = given (ring_sound c.args.self.now (omega arith)) c.args.cell.0 (sym c.if-not-holds.ensures) in
-    omega (arith, g.room, c.args.self.now.within)
-
-pub overflow_add-self : goal.overflow_add-self
-overflow_add-self c =
-    let g = given (ring_sound c.args.self.now (omega arith)) c.args.cell.0 (sym c.if-not-holds.ensures) in
-    omega (arith, g.room)
+pub push-requires : goal.push-requires
+push-requires c =
+    let r = c.args.self.now in
+    let g = given c.args.cell.0 (order r) r.marks (ring_sound r (omega arith)) (held_some r.marks c.args.cell.0 _ c.in-Some.ensures).1 in
+    (omega arith, omega (arith, g.room, length_order r.free r.cells (omega arith)))
 
 pub invariant_of-self : goal.invariant_of-self
 invariant_of-self c =
-    let g = given (ring_sound c.args.self.now (omega arith)) c.args.cell.0 (sym c.if-not-holds.ensures) in
-    record { within = c.args.self.now.within; exact = g.exact; counted = g.counted }
-
-pub returns : goal.returns
-returns c =
-    let held = sym c.if-not-holds.ensures in
-    let g = given (ring_sound c.args.self.now (omega arith)) c.args.cell.0 held in
-    record { answer = back_made _ _ c.args.cell.0 held refl; order = g.last }
+    let r = c.args.self.now in
+    let found = held_some r.marks c.args.cell.0 _ c.in-Some.ensures in
+    let g = given c.args.cell.0 (order r) r.marks (ring_sound r (omega arith)) found.1 in
+    let at = c.index.ensures ∙ found.0 in
+    let back = order_pushed r.free c.push.new.self r.cells c.push.new.entries c.in-Some.held c.push.ensures.state in
+    let more : length (order r) + 1 ≡ queued c.push.new.self =
+    omega (arith, ap length back, length_push (order r) (cell_number c.in-Some.held), length_order c.push.new.self c.push.new.entries c.push.ensures.wide) in
+    record {
+      exact = ap marked (back ∙ ap (λ n. order r ++ n ∷ []) found.0) ∙ g.exact ∙ ap (λ k. set r.marks k true) (sym at);
+      counted = ap (λ k. free_count (set r.marks k true)) at ∙ g.counted ∙ more;
+    }

@@ -1,17 +1,29 @@
-use Rattle.std.proofs.Common.{sym, refl, ap, arith}
-use Rattle.cells.specs.Orders.{granted_first}
-use Rattle.cells.specs.FreeCells.{ring_sound, taken}
+use Rattle.std.proofs.Common.{map, length, false, set, sym, ap, ◌∙◌, arith}
+use Rattle.frame.specs.Numbers.{cell_number}
+use Rattle.cells.specs.Fifos.{items, rest_of}
+use Rattle.cells.specs.Rings.{marked}
+use Rattle.cells.specs.Stores.{free_count}
+use Rattle.cells.proofs.Granting.{length_order, taken_first}
+use Rattle.cells.proofs.Queued.{none_first}
 use Rattle.cells.proofs.rings.methods.RingStore.grant.Goals as goal
-
-pub bounds-self-cell : goal.bounds-self-cell
-bounds-self-cell c = omega (arith, (taken (ring_sound c.args.self.now (omega arith)) (omega arith)).is_cell)
 
 pub invariant_of-self : goal.invariant_of-self
 invariant_of-self c =
-    let t = taken (ring_sound c.args.self.now (omega arith)) (omega arith) in
-    record { within = omega arith; exact = t.exact; counted = t.counted }
+    let r = c.args.self.now in
+    let none = none_first (items r.free r.cells) c.in_default.ensures.answer in
+    let same = c.pop.ensures.state ∙ ap rest_of none ∙ sym none in
+    record {
+      exact = ap (λ l. marked (map cell_number l)) same ∙ r.exact;
+      counted = r.counted ∙ sym (length_order r.free r.cells (omega arith)) ∙ sym (ap (λ l. length (map cell_number l)) same) ∙ length_order c.pop.new.self r.cells (omega arith);
+    }
 
-pub returns : goal.returns
-returns c =
-    let t = taken (ring_sound c.args.self.now (omega arith)) (omega arith) in
-    record { answer = (t.was_free, refl); order = sym (ap granted_first t.first) }
+pub invariant_of-self-2 : goal.invariant_of-self-2
+invariant_of-self-2 c =
+    let r = c.args.self.now in
+    let t = taken_first r c.in-Some.cell (omega arith) c.in-Some.ensures.answer in
+    let left = c.pop.ensures.state in
+    let at = c.index.ensures in
+    record {
+      exact = ap (λ l. marked (map cell_number l)) left ∙ t.exact ∙ ap (λ k. set r.marks k false) (sym at);
+      counted = ap (λ k. free_count (set r.marks k false)) at ∙ t.counted ∙ sym (ap (λ l. length (map cell_number l)) left) ∙ length_order c.pop.new.self r.cells (omega arith);
+    }
