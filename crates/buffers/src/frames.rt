@@ -9,7 +9,8 @@ use cells::stores::CELLS;
 use frame::classes::Class;
 use frame::numbers::{Cell, FrameNumber};
 
-// The cost is what each copy of the frame costs where copies are paid for. A cell that held no frame yet has length 0.
+// The cost is what each copy of the frame costs where copies are paid for. A cell that held no frame yet has
+// length 0, so that its bytes, none, are read as those of any other; an Option would make a case of what no call reaches.
 #[derive(Clone, Copy)]
 pub struct Kept {
     pub number: FrameNumber,

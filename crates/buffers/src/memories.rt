@@ -11,6 +11,7 @@ pub const CELL_BYTES: usize = 1536;
 
 pub const MEMORY_BYTES: usize = CELLS * CELL_BYTES;
 
+// By the project's rule one array behind its own methods.
 #[derive(Drop)]
 pub struct Memory {
     bytes: [u8; MEMORY_BYTES],

@@ -79,7 +79,8 @@ impl PortRecord {
         }
     }
 
-    // Moves the copy at the front of a queue out.
+    // Moves the copy at the front of a queue out. That none is out is asked, as of the calls above that lead here: only some
+    // ports are so, and Take tests it first.
     pub(crate) fn take(&mut self, queue: Queue)
         requires { (line self.old).out ≡ None }
         ensures { line self.new ≡ outed (line self.old) (queue_number queue) }

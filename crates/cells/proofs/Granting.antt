@@ -1,11 +1,11 @@
 -- The free cells of a ring as its queue has them: what a grant and a give-back find and leave. Assumes nothing.
-use Rattle.std.proofs.Common.{◌≡◌, ℕ, ◌<◌, Bool, true, List, [], ◌∷◌, ◌++◌, length, map, Some, Option, nat_lt, sym, ap, subst, ◌∙◌, arith}
+use Rattle.std.proofs.Common.{◌≡◌, ℕ, ◌<◌, Bool, true, List, [], ◌∷◌, ◌++◌, length, map, Some, Option, nat_lt, sym, ap, subst, ◌∙◌, ⊎_elim, arith}
 use lib.ListN.{length-map}
-use Rattle.std.proofs.lemmas.Bool.{cond-true, lt-ltb}
+use Rattle.std.proofs.lemmas.Bool.{cases_Bool, cond-false, cond-true, lt-ltb}
 use Rattle.std.proofs.lemmas.List.{map_push, take_all, take-append-le}
-use Rattle.std.proofs.lemmas.Option.{cond_some}
 use Rattle.std.specs.Option.{option_map}
 use Rattle.frame.specs.Numbers.{below, cell_number}
+use Rattle.frame.specs.Refusals.{accepted}
 use Rattle.frame.specs.declared.numbers.Cell.{Cell}
 use Rattle.cells.specs.Fifos.{first_of, first_place, items, queued, rest_of}
 use Rattle.cells.specs.FreeCells.{Sound, Taken, taken}
@@ -28,8 +28,12 @@ taken_first r cell long e =
     taken (cell_number cell) (map cell_number (rest_of (items r.free r.cells))) r.marks (subst (λ cs. Sound (map cell_number cs) r.marks) (first_rest (items r.free r.cells) cell e) (ring_sound r long))
 
 -- what a look for the held cell of a number tells
-pub held_some : (ms : List Bool) (k n : ℕ) → Some n ≡ held_in ms k → (n ≡ k) × (held_at ms k ≡ true)
-held_some ms k n e = let is = cond_some (held_at ms k) k n (sym e) in (sym is.1, is.0)
+pub held_told : (ms : List Bool) (k n : ℕ) → accepted n ≡ held_in ms k → (n ≡ k) × (held_at ms k ≡ true)
+held_told ms k n e =
+    ⊎_elim
+    (λ is. let f = e ∙ cond-true (held_at ms k) _ _ is in (cc, is))
+    (λ no. absurd (let f = e ∙ cond-false (held_at ms k) _ _ no in cc))
+    (cases_Bool (held_at ms k))
 
 -- the entries of a queue with one more at its back
 pub order_pushed : (q after : Fifo) (cells put : List Cell) (cell : Cell) → items after put ≡ items q cells ++ cell ∷ [] → map cell_number (items after put) ≡ map cell_number (items q cells) ++ cell_number cell ∷ []

@@ -1,5 +1,5 @@
 -- A store of frame memory cells, by its marks: entry c is true where cell c is free. Assumes nothing.
-use Rattle.std.specs.Prelude.{◌≡◌, ℕ, ◌+◌, Bool, true, false, cond, not, ◌&&◌, List, [], ◌∷◌, replicate, nat_lt, slice_index_or, slice_set, None, Some, Option}
+use Rattle.std.specs.Prelude.{◌≡◌, ℕ, ◌+◌, Bool, true, false, cond, not, ◌&&◌, List, [], ◌∷◌, replicate, nat_lt, slice_index_or, slice_set}
 use Rattle.frame.specs.Refusals.{Told, accepted, refused}
 
 -- how many cells there are, numbered from 0
@@ -23,9 +23,9 @@ free_at ms c = slice_index_or ms c false
 abbrev pub held_at : List Bool → ℕ → Bool
 held_at ms c = nat_lt c cell_count && not (free_at ms c)
 
--- cell c, if there is one and it is not free
-abbrev pub held_in : List Bool → ℕ → Option ℕ
-held_in ms c = cond (held_at ms c) (Some c) None
+-- cell c, or refusal 11 where there is none or it is free
+abbrev pub held_in : List Bool → ℕ → Told ℕ
+held_in ms c = cond (held_at ms c) (accepted c) (refused 11 c)
 
 -- what a grant may answer, and the marks before and after it:
 -- some cell that was free, which is taken out; or refusal 6 of class 0, where no cell was free, and the store is kept

@@ -25,11 +25,14 @@ impl Mask {
         (self.bits >> cell.index()) % 2 == 1
     }
 
-    // The cell of this number, if there is one and it is not free.
-    fn held(&self, cell: CellId) -> Option<Cell>
-        ensures { option_map cell_number result ≡ held_in (mask_marks self.now) (id_number cell) }
+    // The cell of this number, or refusal 11 where there is none or it is free. The ring asks the same of its marks; a method of the
+    // trait for both would ask one more thing of every kind of store.
+    fn held(&self, cell: CellId) -> Result<Cell, Refusal>
+        ensures { told cell_number result ≡ held_in (mask_marks self.now) (id_number cell) }
     {
-        Cell::new(cell.0).filter(|cell| !self.is_free(*cell))
+        Cell::new(cell.0)
+            .filter(|cell| !self.is_free(*cell))
+            .ok_or(Refusal::CellNotHeld(cell))
     }
 }
 
@@ -46,6 +49,7 @@ impl Store for Mask {
         ensures answer { Granted (mask_marks self.old) (told cell_number result) (mask_marks self.new) }
         ensures order { Highest (mask_marks self.old) (told cell_number result) }
     {
+        // Not by `ok_or`: what is known of a logarithm is said by cases, which the pattern opens for the proof.
         let Some(top) = self.bits.checked_ilog2() else {
             return Err(Refusal::TooFewCells(Class::BestEffort));
         };
@@ -54,9 +58,7 @@ impl Store for Mask {
     }
 
     fn give_back(&mut self, cell: CellId) -> Result<(), Refusal> {
-        let Some(held) = self.held(cell) else {
-            return Err(Refusal::CellNotHeld(cell));
-        };
+        let held = self.held(cell)?;
         self.bits |= 1 << held.index();
         Ok(())
     }

@@ -16,9 +16,7 @@ fn stores_pass_the_self_test(rt: HostRuntime) {
 #[test]
 fn rules_admit_from_their_floors_on(rt: HostRuntime) -> Result<(), Fail> {
     assert!(rt; admits(&Ladder, Class::BestEffort, 4) & !admits(&Ladder, Class::BestEffort, 3));
-    let Ok(set) = Thresholds::new(10, 4) else {
-        return Err(Fail::new("thresholds of 10 and 4 are refused"));
-    };
+    let set = Thresholds::new(10, 4).map_err(|_| "thresholds of 10 and 4 are refused")?;
     assert!(rt; admits(&set, Class::BestEffort, 10) & !admits(&set, Class::Reserved, 9));
     Ok(())
 }

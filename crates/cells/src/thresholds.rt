@@ -41,9 +41,9 @@ impl Rule for Thresholds {
     ghost fair = { Prim.search rules };
 
     fn floor(&self, class: Class) -> usize {
-        let reserved = (self.reserved as usize).min(NEVER).max(1);
+        let reserved = usize::from(self.reserved).min(NEVER).max(1);
         match class {
-            Class::BestEffort => (self.best_effort as usize).min(NEVER).max(reserved),
+            Class::BestEffort => usize::from(self.best_effort).min(NEVER).max(reserved),
             Class::Reserved => reserved,
             Class::Clock | Class::TimeSensitive => 1,
         }

@@ -3,12 +3,11 @@ use Rattle.std.proofs.Common.{◌≡◌, ℕ, zero, suc, ◌+◌, ◌*◌, ◌�
 use Rattle.std.proofs.lemmas.Bool.{cases_order, cond-false, cond-true, eq-eqb, le-ltb, lt-ltb, ne_eqb}
 use mir.Val.{bool_byte}
 use Rattle.std.specs.Option.{option_to_list}
-use Rattle.buffers.specs.Holdings.{changed, egress}
-use Rattle.buffers.specs.declared.buffers.Buffers.{Buffers}
-use Rattle.rules.specs.Copies.{Copy, Egress, queued_at, with_out, with_queue}
 use Rattle.buffers.proofs.Lengths.{no_more, queue_few}
+use Rattle.buffers.specs.Holdings.{egress}
+use Rattle.buffers.specs.declared.buffers.Buffers.{Buffers}
+use Rattle.rules.specs.Copies.{Copy, Egress, queued_at, with_queue}
 use Rattle.egress.proofs.Changes.{changed_so, changed_then, port_after, unchanged}
-use Rattle.egress.proofs.Ports.{changed_twice, put_here}
 use Rattle.egress.specs.Changes.{ChangesPort}
 use Rattle.egress.specs.Ports.{unqueued}
 
@@ -88,13 +87,6 @@ queued_few b d p = omega (arith, queued_length (egress d b p), in_first_few b d 
 pub out_counts : (o : Option Copy) → bool_byte (is_some o) ≡ length (option_to_list o)
 out_counts None = refl
 out_counts (Some c) = refl
-
--- the queues emptied, and then no copy out
-pub cleared : (before : ℕ → Egress) (p : ℕ) {mid after : ℕ → Egress} → mid ≡ changed before p unqueued → after ≡ changed mid p (λ e. with_out e None) → after ≡ changed before p (λ e. with_out (unqueued e) None)
-cleared before p {mid} {after} one two = two ∙ (λ i. changed (one i) p (λ e. with_out e None)) ∙ changed_twice before p unqueued (λ e. with_out e None)
-
-pub still_out : (before : ℕ → Egress) (p : ℕ) {mid : ℕ → Egress} → mid ≡ changed before p unqueued → (mid p).out ≡ (before p).out
-still_out before p {mid} e = ap (λ f. (f p).out) e ∙ ap (λ x. x.out) (put_here before p (unqueued (before p)))
 
 pub bit_few : (b : Bool) → bool_byte b ≤ 1
 bit_few true = omega arith

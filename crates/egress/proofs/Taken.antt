@@ -1,5 +1,5 @@
 -- How a copy is taken at a port, step by step. Assumes nothing.
-use Rattle.std.proofs.Common.{◌≡◌, ℕ, ◌+◌, ◌-◌, ◌≤◌, Bool, true, false, ltb, List, [], ◌∷◌, length, drop, is_some, Some, None, Option, sym, refl, ap, ◌∙◌, arith}
+use Rattle.std.proofs.Common.{◌≡◌, ℕ, ◌+◌, ◌-◌, ◌≤◌, Bool, true, false, ltb, List, [], ◌∷◌, length, drop, is_some, Some, None, sym, refl, ap, ◌∙◌, arith}
 use Rattle.std.proofs.lemmas.Bool.{cond_both, cond-false, cond-true, false≢true, ltb-false}
 use Rattle.std.specs.Option.{option_map}
 use Rattle.buffers.specs.Holdings.{egress, first_out}
@@ -115,7 +115,3 @@ module _ {before mid after : Buffers} {p : ℕ} (gone : ChangesPort before mid p
 
     pub none_paid : ChangesPort before after p (λ e. with_queue e 2 [])
     none_paid = changed_so both_paid (λ d i. pays (with_queue (egress d before p) 2 (all_dear d i)) (all_dear d i))
-
-pub mapped_twice : {A B C : Type 0} (f : A → B) (g : B → C) (o : Option A) → option_map g (option_map f o) ≡ option_map (λ x. g (f x)) o
-mapped_twice f g None = refl
-mapped_twice f g (Some x) = refl

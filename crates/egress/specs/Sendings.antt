@@ -14,5 +14,6 @@ out_at ports p n = cond (nat_lt p 4) (if_numbered n (ports p).out) None
 abbrev pub sending_at : (ℕ → Egress) → ℕ → ℕ → Told (ℕ × ℕ)
 sending_at ports p n = judged (not_out (out_at ports p n) p ∷ []) (p, length (out_bytes (out_at ports p n)))
 
+-- port and length of what was found
 abbrev pub sending : Sending → ℕ × ℕ
 sending s = (port_number s.port, s.length)

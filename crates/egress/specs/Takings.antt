@@ -11,6 +11,7 @@ use Rattle.egress.specs.declared.takings.Taking.{Taking}
 abbrev pub seen : Taking Sent → Option (ℕ × ℕ) × ℕ
 seen t = (option_map sent t.taken, t.overdrawn)
 
+-- the same of what the definition takes
 abbrev pub shows : definition.Taking → Option (ℕ × ℕ) × ℕ
 shows t = (option_map copy_sent t.taken, t.overdrawn)
 

@@ -15,7 +15,8 @@ use cells::stores::Store;
 use frame::numbers::{Port, Queue};
 
 // Gives back the cell of a copy that ended, if that was the last of its frame, and tells whether there was a copy.
-// The cell was held, so that the store does not refuse it.
+// The cell was held, so that the store does not refuse it. This is no method of a pool: the copy has left the buffers, and
+// the store does not agree with them until its cell is back.
 pub fn release<S: Store>(store: &mut S, ended: Option<Ended>) -> bool
     ensures answer { result ≡ was_copy ended }
     ensures cells { (free : ℕ → Bool) → Agree (S.marks store.old) free → was_held ended free → Agree (S.marks store.new) (freed ended free) }

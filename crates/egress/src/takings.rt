@@ -44,6 +44,7 @@ impl Gates {
     }
 }
 
+// That no copy is out is asked of what takes one: only some ports are so, and Take tests it first.
 impl<S: Store> Pool<S> {
     // Moves the first copy of a queue out, and tells of it.
     fn take_first(&mut self, port: Port, queue: Queue) -> Option<Sent>

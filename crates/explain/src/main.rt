@@ -20,6 +20,7 @@ fn explain(heap: Global, input: &[u8]) -> Result<String, fmt::Error> {
     let mut text = String::new(heap);
     let mut cursor = Cursor::new(input);
     let mut directions = None;
+    // The number is printed, and the loop ends where the input does: no range says how many records there are.
     let mut count = 0;
     loop {
         let number = count + 1;

@@ -8,9 +8,6 @@ ghost use Rattle.forwarding.specs.Sets.{tapped_proper};
 use crate::routes::{Forwarding, NoRoute, Route, form};
 use frame::numbers::{Address, Port, PortSet};
 
-// The port at which a monitor listens.
-pub const TAP_PORT: u8 = 3;
-
 // A forwarding with the tap layer over it.
 #[derive(Drop)]
 pub struct Tapped<F> {
@@ -23,7 +20,7 @@ impl<F: Forwarding> Forwarding for Tapped<F> {
     ghost proper = { λ f d p hd hp. tapped_proper (F.Forwarding.forwards f.below d p) p hp (F.Forwarding.proper f.below d p hd hp) };
 
     fn route(&self, destination: Address, input: Port) -> Route {
-        if input.number() == TAP_PORT {
+        if input == Port::TAP {
             return Err(NoRoute::Tap);
         }
         tap_set(self.below.route(destination, input)?)
@@ -34,7 +31,6 @@ impl<F: Forwarding> Forwarding for Tapped<F> {
 fn tap_set(set: PortSet) -> Route
     ensures { way result ≡ tapped_set (set_bits set) }
 {
-    let tap = Port::ALL[usize::from(TAP_PORT)];
-    let rest = form(Some(set), tap)?;
-    Ok(rest.with(tap))
+    let rest = form(Some(set), Port::TAP)?;
+    Ok(rest.with(Port::TAP))
 }

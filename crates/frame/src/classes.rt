@@ -14,7 +14,8 @@ pub enum Class {
 pub const CLOCK_TYPE: u16 = 0x88F7;
 
 impl Class {
-    // The class of a frame, from its tag's priority where it is tagged, and else from its type.
+    // The class of a frame, from its tag's priority where it is tagged, and else from its type: by the project's rule one
+    // match with ranges of the priority, guarded by tag and type.
     pub fn of(tagged: bool, priority: u8, kind: u16) -> Class
         ensures { class_number result ≡ class_of tagged priority kind }
     {

@@ -4,7 +4,7 @@ ghost use Rattle.frame.specs.Frames.{firmware_class};
 
 use crate::readings::read;
 
-// What the firmware is told of bytes that are no frame.
+// What the firmware is told of bytes that are no frame: C is answered one byte.
 pub const NO_CLASS: u8 = 255;
 
 // The class of a frame, or NO_CLASS for a wrong length.

@@ -1,4 +1,6 @@
-// Numbers that cannot be taken for one another. A ghost field is the range of its type.
+// Numbers that cannot be taken for one another. A ghost field is the range of its type. Each has its range in words of its
+// own: one generic type for them would need a tag, a bound and an integer as parameters, to say less.
+// As of std's NonZero, `new` answers an Option, and a method gives the number back: no error would say more than none.
 ghost use Rattle.std.specs.Prelude.{◌^◌, ◌<◌};
 
 pub mod addresses;

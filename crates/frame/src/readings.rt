@@ -17,7 +17,7 @@ pub const LONGEST: usize = 1518;
 pub const TAG_TYPE: u16 = 0x8100;
 
 // What a frame carries: the part of it behind the header, with its place in the frame and its type.
-// The type of a tagged frame is the one behind its tag.
+// The type of a tagged frame is the one behind its tag. By the project's rule each case carries all that belongs to it.
 #[derive(Clone, Copy)]
 pub enum Reading<'a> {
     Tagged {

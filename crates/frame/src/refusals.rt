@@ -34,6 +34,7 @@ pub enum Refusal {
 }
 
 impl Refusal {
+    // A refusal has two numbers, so neither is a conversion of it.
     pub fn number(&self) -> u8
         ensures { result ≡ (says self.now).0 }
     {

@@ -47,18 +47,18 @@ impl fmt::Display for Line {
 }
 
 // The first line of every schedule.
-pub fn write_heading(text: &mut String) -> Result<(), AllocError>
+pub fn write_heading(text: &mut Vec<u8>) -> Result<(), AllocError>
     ensures { Wrote result text.old heading text.new }
 {
-    text.push_str("schedule 1\n")
+    text.extend_from_slice(b"schedule 1\n")
 }
 
-pub fn write_line(text: &mut String, number: u64, told: &Outcome) -> Result<(), AllocError>
+pub fn write_line(text: &mut Vec<u8>, number: u64, told: &Outcome) -> Result<(), AllocError>
     ensures { Wrote result text.old (line number (outcome told.now)) text.new }
 {
     let line = Line {
         number,
         outcome: *told,
     };
-    text.push_str(line.text().as_str())
+    text.extend_from_slice(line.text().as_bytes())
 }

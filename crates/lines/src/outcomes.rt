@@ -5,7 +5,8 @@ use frame::refusals::Refusal;
 
 pub mod methods;
 
-// The ports of Idle and Cleared are ports that there are, of Sent too: any other is refused.
+// The ports of Idle and Cleared are ports that there are, of Sent too: any other is refused. They are bytes, as a record
+// gives them and a line tells them.
 #[derive(Clone, Copy)]
 pub enum Outcome {
     New,

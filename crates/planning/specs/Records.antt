@@ -31,10 +31,11 @@ pieces_from (suc n) bs p = piece_or (pieces_from n bs) (place_behind bs p) (reco
 abbrev pub pieces : List ℕ → List Piece
 pieces bs = pieces_from (length bs + 1) bs 0
 
--- the switch that an opening asks for: over parity, thresholds and an address table, under the tap layer if it says so
+-- a way, under the tap layer if there is one
 abbrev pub tapped_if : Bool → Way → ℕ → Way
 tapped_if t w p = cond t (tapped w p) w
 
+-- the switch that an opening asks for: over parity, thresholds and an address table, under the tap layer if it says so
 abbrev pub behind_of : Opened → Behind
 behind_of o = record { fill = parity_fills; opens = parity_opens; floor = floors_under o.reserved o.best_effort; forward = λ d p. tapped_if o.tap (table_way (rows_in o.rows) d p) p }
 

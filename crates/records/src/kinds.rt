@@ -27,6 +27,7 @@ pub enum Record<'a> {
 }
 
 impl Kind {
+    // As std's NonZero::new: an error would say no more than none.
     pub(crate) fn new(number: u8) -> Option<Kind>
         ensures { option_map kind_number result ≡ below 5 number }
     {

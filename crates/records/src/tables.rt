@@ -9,7 +9,8 @@ use crate::openings::Rows;
 use forwarding::address_tables::AddressTable;
 use frame::refusals::Refusal;
 
-// The table of these rows, or the refusal of the first one that it cannot hold.
+// The table of these rows, or the refusal of the first one that it cannot hold: as AddressTable::load, over rows that are
+// still bytes. One function for both would go over any iterator, and so would have to ask that it ends.
 pub fn load_table(rows: Rows<'_>) -> Result<AddressTable, Refusal>
     ensures { told table_forwards result ≡ table_loaded (rows_in (rows_of rows.entry)) }
 {

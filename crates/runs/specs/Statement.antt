@@ -24,6 +24,7 @@ pub record View : Type 0 where
   pub marks : List Bool
   pub state : State
 
+-- this view of a run, from what it was given and what it left
 abbrev pub view : {S P R F : Type 0} {store : Ghosts S} → Behind → List Turn → List Turn → Ended S P R F store → View
 view b before after e = record { behind = b; before = before; after = after; standing = e.standing; gauges = map gauged e.gauges; marks = switch.cells e.switch; state = switch.state e.switch }
 
@@ -31,6 +32,7 @@ view b before after e = record { behind = b; before = before; after = after; sta
 abbrev pub started : Settings → State
 started s = new_state s.slot s.number s.bucket.rate s.bucket.depth
 
+-- the sum of a list
 abbrev pub sum : List ℕ → ℕ
 sum [] = 0
 sum (n ∷ ns) = n + sum ns

@@ -13,6 +13,7 @@ use crate::turns::{Ended, Turn};
 use cells::rules::Rule;
 use cells::stores::Store;
 use forwarding::routes::Forwarding;
+use frame::numbers::Port;
 use frame::refusals::Refusal;
 use gates::plans::Plan;
 use switch::answers::Gauged;
@@ -23,12 +24,7 @@ use switch::switches::{Kinds, Switch};
 fn gauge_all<S: Store, P, R, F>(switch: &Switch<S, P, R, F>) -> [Gauged; 4]
     ensures { map gauged result ≡ all_gauged (state switch.now) }
 {
-    [
-        switch.gauge(0).unwrap(),
-        switch.gauge(1).unwrap(),
-        switch.gauge(2).unwrap(),
-        switch.gauge(3).unwrap(),
-    ]
+    Port::ALL.map(|port| switch.gauge(port.number()).unwrap())
 }
 
 // Makes the calls of the turns, one after the other, on a new switch, and writes each answer into its turn.

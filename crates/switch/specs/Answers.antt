@@ -16,6 +16,7 @@ use Rattle.switch.specs.declared.tickets.Ticket.{Ticket}
 abbrev pub numbered : TicketNumbers → definition.Ticket
 numbered t = record { port = t.port; number = t.number.0; length = t.length }
 
+-- a ticket, by its numbers
 abbrev pub ticket_of : Ticket → definition.Ticket
 ticket_of t = numbered t.numbers
 
@@ -23,6 +24,7 @@ ticket_of t = numbered t.numbers
 abbrev pub is_spent : Ticket → Bool
 is_spent t = t.spent
 
+-- what Arrive, Tick, Return and Gauge answered
 abbrev pub arrived : Arrived → definition.Arrived
 arrived a = record { number = a.number.0; class = class_number a.class; set = set_bits a.ports }
 

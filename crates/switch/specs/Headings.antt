@@ -16,6 +16,7 @@ heading h = (port_number h.input, address_bits h.destination, class_number h.cla
 abbrev pub heading_checks : ℕ → List ℕ → List Check
 heading_checks p f = no_such_port p ∷ record { fails = not (fits f); number = 2; value = length f } ∷ []
 
+-- what the two checks let through, or the refusal of the first that fails
 abbrev pub heading_of : ℕ → List ℕ → Told (ℕ × ℕ × ℕ)
 heading_of p f = judged (heading_checks p f) (p, destination f, class f)
 
@@ -23,5 +24,6 @@ heading_of p f = judged (heading_checks p f) (p, destination f, class f)
 abbrev pub way_checks : Way → ℕ → List Check
 way_checks w p = record { fails = is_tap w; number = 4; value = p } ∷ record { fails = is_unknown w; number = 5; value = p } ∷ []
 
+-- the set of ports that they let through
 abbrev pub ports_by : Way → ℕ → Told ℕ
 ports_by w p = judged (way_checks w p) (set_of w)

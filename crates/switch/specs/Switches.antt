@@ -14,6 +14,7 @@ abbrev pub meant : {P R F : Type 0} → (P → ℕ → ℕ) → (P → ℕ → �
 meant fills opens floors forwards k = record { fill = fills k.plan; opens = opens k.plan; floor = floors k.rule; forward = forwards k.forwarding }
 
 module _ {S P R F : Type 0} {store : Ghosts S} where
+  -- the state that the definition speaks of
   abbrev pub state : Switch S P R F store → State
   state s = record { slot = slot_number s.slot; next = next_number s.pool.buffers; rate = s.bucket.rate; depth = s.bucket.depth; port = egress s.bucket.depth s.pool.buffers }
 
@@ -25,6 +26,7 @@ module _ {S P R F : Type 0} {store : Ghosts S} where
   abbrev pub behind : (P → ℕ → ℕ) → (P → ℕ → ℕ → Bool) → (R → ℕ → ℕ) → (F → ℕ → ℕ → Way) → Switch S P R F store → Behind
   behind fills opens floors forwards s = meant fills opens floors forwards s.kinds
 
+  -- the store
   abbrev pub store_of : Switch S P R F store → S
   store_of s = s.pool.store
 

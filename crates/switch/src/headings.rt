@@ -37,9 +37,11 @@ pub(crate) fn find_ports<F: Forwarding>(
 ) -> Result<PortSet, Refusal>
     ensures { told set_bits result ≡ ports_by (F.forwards forwarding.now (address_bits heading.destination) (port_number heading.input)) (port_number heading.input) }
 {
-    match forwarding.route(heading.destination, heading.input) {
-        Ok(ports) => Ok(ports),
-        Err(NoRoute::Tap) => Err(Refusal::TapPort(heading.input)),
-        Err(NoRoute::Unknown) => Err(Refusal::NoWayOut(heading.input)),
-    }
+    let port = heading.input;
+    forwarding
+        .route(heading.destination, port)
+        .map_err(|none| match none {
+            NoRoute::Tap => Refusal::TapPort(port),
+            NoRoute::Unknown => Refusal::NoWayOut(port),
+        })
 }

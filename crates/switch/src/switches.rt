@@ -23,6 +23,7 @@ pub struct Kinds<P, R, F> {
     pub forwarding: F,
 }
 
+// What a call keeps, each call says in its own contract, so that it can be read alone.
 // A cell is free in the store exactly if no frame with a copy is in it: that is the pool's invariant, which New makes
 // hold, and every call keeps.
 #[derive(Drop)]

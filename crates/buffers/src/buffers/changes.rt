@@ -40,7 +40,7 @@ impl Buffers {
         self.board.set_tokens(port, tokens);
     }
 
-    // Moves the first copy of a queue out, where no copy is out.
+    // Moves the first copy of a queue out. That no copy is out is asked: only some ports are so.
     pub fn take(&mut self, port: Port, queue: Queue)
         requires { (d : ℕ) → (egress d self.old (port_number port)).out ≡ None }
         ensures state { (d : ℕ) → egress d self.new ≡ changed (egress d self.old) (port_number port) (first_out (queue_number queue)) }

@@ -32,11 +32,13 @@ fn in_order() -> [Cell; CELLS]
 }
 
 impl Ring {
-    // The cell of this number, if there is one and it is not free.
-    fn held(&self, cell: CellId) -> Option<Cell>
-        ensures { option_map cell_number result ≡ held_in (ring_marks self.now) (id_number cell) }
+    // The cell of this number, or refusal 11 where there is none or it is free.
+    fn held(&self, cell: CellId) -> Result<Cell, Refusal>
+        ensures { told cell_number result ≡ held_in (ring_marks self.now) (id_number cell) }
     {
-        Cell::new(cell.0).filter(|cell| !self.marks[cell.index()])
+        Cell::new(cell.0)
+            .filter(|cell| !self.marks[cell.index()])
+            .ok_or(Refusal::CellNotHeld(cell))
     }
 }
 
@@ -60,9 +62,8 @@ impl Store for Ring {
         ensures answer { Granted (ring_marks self.old) (told cell_number result) (ring_marks self.new) }
         ensures order { (told cell_number result, order self.new) ≡ granted_first (order self.old) }
     {
-        let Some(cell) = self.free.pop(&self.cells) else {
-            return Err(Refusal::TooFewCells(Class::BestEffort));
-        };
+        let first = self.free.pop(&self.cells);
+        let cell = first.ok_or(Refusal::TooFewCells(Class::BestEffort))?;
         self.marks[cell.index()] = false;
         Ok(cell)
     }
@@ -71,9 +72,7 @@ impl Store for Ring {
         ensures answer { (told (λ u. u) result, ring_marks self.new) ≡ given_back (ring_marks self.old) (id_number cell) }
         ensures order { order self.new ≡ put_last (told (λ u. u) result) (order self.old) (id_number cell) }
     {
-        let Some(held) = self.held(cell) else {
-            return Err(Refusal::CellNotHeld(cell));
-        };
+        let held = self.held(cell)?;
         self.free.push(&mut self.cells, held);
         self.marks[held.index()] = true;
         Ok(())

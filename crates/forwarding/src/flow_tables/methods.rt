@@ -17,7 +17,7 @@ use frame::refusals::Refusal;
 // The lowest bit of a destination that tells its flow.
 const FLOW_SHIFT: u32 = 31;
 
-// The set of a flow that has no row.
+// The set of a flow that has no row; a flow's row is one byte, by the project's rule.
 const NO_PORTS: u8 = 0;
 
 impl FlowBytes {

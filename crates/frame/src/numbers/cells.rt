@@ -25,6 +25,6 @@ impl Cell {
     pub fn index(self) -> usize
         ensures { result ≡ cell_number self }
     {
-        self.number as usize
+        usize::from(self.number)
     }
 }

@@ -30,10 +30,20 @@ impl Port {
         Port { number: 3 },
     ];
 
+    // The port at which a monitor listens, where there is one.
+    pub const TAP: Port = Port { number: 3 };
+
     pub fn number(self) -> u8
         ensures { result ≡ port_number self }
     {
         self.number
+    }
+
+    // The port's place in a list of all ports.
+    pub fn index(self) -> usize
+        ensures { result ≡ port_number self }
+    {
+        usize::from(self.number)
     }
 
     // What the port counts in a set.

@@ -30,10 +30,6 @@ impl Slot {
     pub fn next(self) -> Result<Slot, Refusal>
         ensures { told slot_number result ≡ slot_after (slot_number self) }
     {
-        let number = self.number + 1;
-        if number >= SLOTS {
-            return Err(Refusal::NumbersUsedUp);
-        }
-        Ok(Slot { number })
+        Slot::new(self.number + 1).ok_or(Refusal::NumbersUsedUp)
     }
 }

@@ -1,5 +1,5 @@
 // The word and the numbers of an outcome.
-ghost use Rattle.std.specs.Prelude.{◌≡◌, ◌∷◌};
+ghost use Rattle.std.specs.Prelude.{◌≡◌, ◌≤◌, ◌∷◌, length};
 ghost use Rattle.lines.specs.Lines.{values, word};
 ghost use Rattle.lines.specs.Outcomes.{outcome};
 
@@ -30,45 +30,31 @@ impl Outcome {
     pub fn values(&self) -> ArrayVec<u64, VALUES>
         ensures { result.items ≡ values (outcome self.now) }
     {
-        let mut values = ArrayVec::new();
         match *self {
-            Outcome::New => {}
+            Outcome::New => ArrayVec::new(),
             Outcome::Laid {
                 number,
                 class,
                 ports,
-            } => {
-                values.push(number.0);
-                values.push(u64::from(class.number()));
-                values.push(u64::from(ports.bits()));
-            }
-            Outcome::Slot { slot, late } => {
-                values.push(slot.number());
-                values.push(u64::from(late));
-            }
+            } => few(&[number.0, u64::from(class.number()), u64::from(ports.bits())]),
+            Outcome::Slot { slot, late } => few(&[slot.number(), u64::from(late)]),
             Outcome::Sent {
                 port,
                 number,
                 overdrawn,
-            } => {
-                values.push(u64::from(port));
-                values.push(number.0);
-                values.push(u64::from(overdrawn));
-            }
-            Outcome::Idle { port, overdrawn } => {
-                values.push(u64::from(port));
-                values.push(u64::from(overdrawn));
-            }
-            Outcome::Cleared { port, count } => {
-                values.push(u64::from(port));
-                values.push(u64::from(count));
-            }
-            Outcome::Refused(refusal) => values.push(u64::from(refusal.number())),
-            Outcome::Fault(refusal) => {
-                values.push(u64::from(refusal.number()));
-                values.push(refusal.value());
-            }
+            } => few(&[u64::from(port), number.0, u64::from(overdrawn)]),
+            Outcome::Idle { port, overdrawn } => few(&[u64::from(port), u64::from(overdrawn)]),
+            Outcome::Cleared { port, count } => few(&[u64::from(port), u64::from(count)]),
+            Outcome::Refused(refusal) => few(&[u64::from(refusal.number())]),
+            Outcome::Fault(refusal) => few(&[u64::from(refusal.number()), refusal.value()]),
         }
-        values
     }
+}
+
+// These numbers, no more than a line has.
+fn few(numbers: &[u64]) -> ArrayVec<u64, VALUES>
+    requires { length numbers.now ≤ 3 }
+    ensures { result.items ≡ numbers.now }
+{
+    ArrayVec::try_from(numbers).unwrap()
 }

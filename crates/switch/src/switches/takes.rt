@@ -30,6 +30,7 @@ impl<S: Store, P: Plan, R: Rule, F: Forwarding> Switch<S, P, R, F> {
             return Err(Refusal::PortBusy(sent.number));
         }
         let gates = Gates::of(&self.kinds.plan, self.slot);
+        // Put together here, and where a list of calls takes: a `map` would have to ask of its closure what these lines know.
         let taking = self.pool.take_at(place, gates);
         Ok(Taking {
             taken: taking

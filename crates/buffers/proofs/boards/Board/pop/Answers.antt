@@ -6,4 +6,4 @@ use Rattle.buffers.proofs.boards.Board.pop.Goals as goal
 
 pub returns-clause-state : goal.returns-clause-state
 returns-clause-state c =
-    line_changed c.args.self.now.ports c.index-self-number.result _ _ c.number.ensures (omega arith) (λ l. shifted l (queue_number c.args.queue)) c.pop.new.self c.pop.ensures.state
+    line_changed c.args.self.now.ports c.index-self-index.result _ _ c.index.ensures (omega arith) (λ l. shifted l (queue_number c.args.queue)) c.pop.new.self c.pop.ensures.state

@@ -6,4 +6,4 @@ use Rattle.buffers.proofs.boards.Board.push.Goals as goal
 
 pub returns : goal.returns
 returns c =
-    line_changed c.args.self.now.ports c.index-self-number.result _ _ c.number.ensures (omega arith) (λ l. pushed l (queue_number c.args.queue) c.args.copy.entry c.args.copy.cost) c.push.new.self c.push.ensures
+    line_changed c.args.self.now.ports c.index-self-index.result _ _ c.index.ensures (omega arith) (λ l. pushed l (queue_number c.args.queue) c.args.copy.entry c.args.copy.cost) c.push.new.self c.push.ensures

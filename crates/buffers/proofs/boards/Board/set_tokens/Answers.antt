@@ -5,4 +5,4 @@ use Rattle.buffers.proofs.boards.Board.set_tokens.Goals as goal
 
 pub returns : goal.returns
 returns c =
-    line_changed c.args.self.now.ports c.index-self-number.result _ _ c.number.ensures (omega arith) (λ l. with_tokens l c.args.tokens) c.set_tokens.new.self c.set_tokens.ensures
+    line_changed c.args.self.now.ports c.index-self-index.result _ _ c.index.ensures (omega arith) (λ l. with_tokens l c.args.tokens) c.set_tokens.new.self c.set_tokens.ensures

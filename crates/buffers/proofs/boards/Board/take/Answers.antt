@@ -6,4 +6,4 @@ use Rattle.buffers.proofs.boards.Board.take.Goals as goal
 
 pub returns : goal.returns
 returns c =
-    line_changed c.args.self.now.ports c.index-self-number.result _ _ c.number.ensures (omega arith) (λ l. outed l (queue_number c.args.queue)) c.take.new.self c.take.ensures
+    line_changed c.args.self.now.ports c.index-self-index.result _ _ c.index.ensures (omega arith) (λ l. outed l (queue_number c.args.queue)) c.take.new.self c.take.ensures

@@ -5,4 +5,4 @@ use Rattle.buffers.proofs.boards.Board.take_out.Goals as goal
 
 pub returns-clause-state : goal.returns-clause-state
 returns-clause-state c =
-    line_changed c.args.self.now.ports c.index-self-number.result _ _ c.number.ensures (omega arith) (λ l. with_out l None) c.take_out.new.self c.take_out.ensures.state
+    line_changed c.args.self.now.ports c.index-self-index.result _ _ c.index.ensures (omega arith) (λ l. with_out l None) c.take_out.new.self c.take_out.ensures.state
