@@ -11,6 +11,7 @@ use frame::numbers::{Port, Queue};
 
 // A change of a port is handed on by a method that states it for all four: an element of an array cannot be lent with a
 // promise of what comes back.
+// A port and one of its queues are named beside each other: a pair of them would be made at each call and taken apart there.
 #[derive(Drop)]
 pub struct Board {
     ports: [PortRecord; 4],

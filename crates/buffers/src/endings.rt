@@ -6,6 +6,8 @@ ghost use Rattle.buffers.specs.Endings.{ended};
 use cells::stores::CELLS;
 use frame::numbers::Cell;
 
+// Two cases with words of their own: that no copy ended, and that no cell came free, would else be two Options, one in the
+// other.
 #[derive(Clone, Copy)]
 pub enum Ended {
     // Its frame has other copies.

@@ -81,7 +81,8 @@ impl Frames {
         self.kept[cell.index()]
     }
 
-    // Writes a frame into a cell, and gives it the next number.
+    // Writes a frame into a cell, and gives it the next number. That the frame is of a frame's length, and that there is a next
+    // number, is asked, as above: only some are so, and Arrive tests it.
     pub(crate) fn place(&mut self, cell: Cell, class: Class, frame: &[u8]) -> FrameNumber
         requires some { 0 < length frame.now }
         requires short { length frame.now ≤ 1518 }
@@ -102,7 +103,7 @@ impl Frames {
         number
     }
 
-    // Writes the frame in a cell to the front of a buffer that has room for it.
+    // Writes the frame in a cell to the front of a buffer. That it has room is asked, as above: Look tests it.
     pub(crate) fn read(&self, cell: Cell, buffer: &mut [u8])
         requires { length (held self.now (cell_number cell)).bytes ≤ length buffer.old }
         ensures { buffer.new ≡ (held self.now (cell_number cell)).bytes ++ drop (length (held self.now (cell_number cell)).bytes) buffer.old }

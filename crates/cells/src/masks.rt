@@ -1,7 +1,6 @@
 // A store that is a number of 32 bits, and grants the highest free cell.
 ghost use Rattle.std.specs.Prelude.{◌≡◌};
 ghost use Rattle.frame.specs.Refusals.{told};
-ghost use Rattle.std.specs.Option.{option_map};
 ghost use Rattle.frame.specs.Numbers.{cell_number, id_number};
 ghost use Rattle.cells.specs.Stores.{free_at, held_in, Granted};
 ghost use Rattle.cells.specs.Masks.{mask_marks, Highest};

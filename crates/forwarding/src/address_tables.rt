@@ -10,9 +10,6 @@ pub mod methods;
 // How many rows a table can hold.
 pub const ROWS: usize = 12;
 
-// The address of every station: all ones.
-pub const BROADCAST: u64 = (1 << 48) - 1;
-
 // Each row is one that a table can hold at its place.
 #[derive(Drop)]
 pub struct AddressTable {

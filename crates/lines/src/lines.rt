@@ -46,7 +46,7 @@ impl fmt::Display for Line {
     }
 }
 
-// The first line of every schedule.
+// The first line of every schedule. It and the others are written into any bytes: a String would ask more of who has them.
 pub fn write_heading(text: &mut Vec<u8>) -> Result<(), AllocError>
     ensures { Wrote result text.old heading text.new }
 {

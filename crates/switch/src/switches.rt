@@ -23,7 +23,8 @@ pub struct Kinds<P, R, F> {
     pub forwarding: F,
 }
 
-// What a call keeps, each call says in its own contract, so that it can be read alone.
+// What a call keeps, each call says in its own contract, so that it can be read alone. So is what plan, rule and forwarding
+// mean, by the members of their bounds: a name for the four members would be a record of them, made in each clause.
 // A cell is free in the store exactly if no frame with a copy is in it: that is the pool's invariant, which New makes
 // hold, and every call keeps.
 #[derive(Drop)]

@@ -28,7 +28,7 @@ impl Fifo {
         self.len as u32
     }
 
-    // Puts an entry at the back.
+    // Puts an entry at the back. That there is room is asked: only some queues have it, and who counts cells knows it.
     pub fn push<E: Copy>(&mut self, entries: &mut [E; ENTRIES], e: E)
         requires { queued self.old < 32 }
         ensures wide { length entries.new ≡ 32 }

@@ -1,6 +1,5 @@
 // The ring as a store, with its order.
 ghost use Rattle.std.specs.Prelude.{◌≡◌, ◌<◌, length, map};
-ghost use Rattle.std.specs.Option.{option_map};
 ghost use Rattle.std.proofs.Common.{sym, ap, ◌∙◌};
 ghost use Rattle.frame.specs.Numbers.{cell_number, id_number};
 ghost use Rattle.frame.specs.Refusals.{told};

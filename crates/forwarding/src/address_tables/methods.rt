@@ -11,7 +11,7 @@ ghost use Rattle.forwarding.specs.Ways.{Proper, to, formed};
 ghost use Rattle.forwarding.specs.Searches.{all_narrow};
 ghost use Rattle.forwarding.specs.Sets.{formed_proper, others_proper};
 
-use crate::address_tables::{AddressTable, BROADCAST};
+use crate::address_tables::AddressTable;
 use crate::routes::{ALL_PORTS, Forwarding, Route, form};
 use crate::rows::Row;
 use arrayvec::ArrayVec;
@@ -32,6 +32,7 @@ impl AddressTable {
     pub fn add(&mut self, row: Row) -> Result<(), Refusal>
         ensures { (told (λ _. tt) result, used_rows self.new) ≡ row_put (used_rows self.old) row }
     {
+        // A row keeps the number of its set as it was given, so that is tested here, and no set is made of it yet.
         if self.rows.is_full() || row.ports > ALL_PORTS {
             return Err(Refusal::BadSetting(self.rows.len()));
         }
@@ -72,7 +73,7 @@ impl Forwarding for AddressTable {
         (λ single. formed_proper (first_row (used_rows t) d) p hp (all_narrow 0 (used_rows t) d t.right)) };
 
     fn route(&self, destination: Address, input: Port) -> Route {
-        if destination.bits() == BROADCAST {
+        if destination == Address::BROADCAST {
             return Ok(PortSet::others(input));
         }
         form(self.row_for(destination), input)

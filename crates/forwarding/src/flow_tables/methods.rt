@@ -70,6 +70,7 @@ impl FlowTable {
         if flow >= FLOWS {
             return Err(Refusal::BadSetting(0));
         }
+        // A flow keeps the number of its set, one byte, so that is tested here.
         if ports > ALL_PORTS {
             return Err(Refusal::BadSetting(1));
         }

@@ -27,6 +27,7 @@ impl From<[u8; 6]> for Address {
 }
 
 // The address of six zero bytes.
+// By hand, since it cannot be derived on a struct with a ghost field.
 impl Default for Address {
     ghost is_default = { λ a. address_bits a ≡ 0 };
 
@@ -38,6 +39,11 @@ impl Default for Address {
 }
 
 impl Address {
+    // The address of every station: all ones.
+    pub const BROADCAST: Address = Address {
+        bits: (1 << 48) - 1,
+    };
+
     pub fn bits(self) -> u64
         ensures { result ≡ address_bits self }
     {

@@ -19,6 +19,7 @@ impl GateList {
         ensures { told listed result ≡ load_as entries.now }
     {
         let entries = ArrayVec::try_from(entries).map_err(|_| Refusal::BadSetting(entries.len()))?;
+        // A match, since no wrong place is the good case.
         match first_wrong(&entries) {
             Some(place) => Err(Refusal::BadSetting(place)),
             None => Ok(GateList { entries }),
