@@ -7,7 +7,7 @@ use Rattle.rules.specs.Copies.{put}
 use Rattle.buffers.proofs.Places.{set_put}
 use Rattle.buffers.proofs.Soundness.{in_other, in_own, put_other, put_same}
 use Rattle.buffers.proofs.Views.{cond_ap}
-use Rattle.buffers.specs.Endings.{ended, freed}
+use Rattle.buffers.specs.Endings.{ended, freed, id_of}
 use Rattle.buffers.specs.Entries.{in_cell}
 use Rattle.buffers.specs.declared.endings.Ended.{Ended}
 use Rattle.buffers.specs.declared.endings.Ended.TheVariants.{Shared, Last}
@@ -24,7 +24,7 @@ uncounted counts (Some e) = set counts (cell_number e.cell) (get_or counts (cell
 
 -- how that copy ends
 abbrev pub ending : List ℕ → Option Waiting → Option Ended
-ending counts = option_map (λ e. ended (get_or counts (cell_number e.cell) 0) e.cell)
+ending counts = option_map (λ e. ended (get_or counts (cell_number e.cell) 0) (id_of e.cell))
 
 put_what_is : {A : Type 0} (f : ℕ → A) (c : ℕ) (x : A) → x ≡ f c → put f c x ≡ f
 put_what_is f c x is = λ i q. each q i
@@ -61,12 +61,12 @@ module _ (counts : List ℕ) (wide : length counts ≡ 32) (e : Waiting) where
   free_more = free_at (count + 1) ∙ ap (put (unused counts) c) (ne_eqb (count + 1) 0 (λ h. omega arith))
 
   -- only the last copy of a frame frees its cell
-  free_less : 0 < count → unused (set counts c (count - 1)) ≡ freed (Some (ended count e.cell)) (unused counts)
+  free_less : 0 < count → unused (set counts c (count - 1)) ≡ freed (Some (ended count (id_of e.cell))) (unused counts)
   free_less some =
       free_at (count - 1)
       ∙ ⊎_elim
-      (λ one. ap (put (unused counts) c) (eq-eqb (count - 1) 0 (omega arith)) ∙ sym (ap (λ r. freed (Some r) (unused counts)) (cond-true (eqb count 1) (Last e.cell) Shared (eq-eqb count 1 one))))
-      (λ more. put_what_is (unused counts) c (eqb (count - 1) 0) (ne_eqb (count - 1) 0 (λ h. omega (arith, h, more)) ∙ sym (ne_eqb count 0 (λ h. omega arith))) ∙ sym (ap (λ r. freed (Some r) (unused counts)) (cond-false (eqb count 1) (Last e.cell) Shared (ne_eqb count 1 more))))
+      (λ one. ap (put (unused counts) c) (eq-eqb (count - 1) 0 (omega arith)) ∙ sym (ap (λ r. freed (Some r) (unused counts)) (cond-true (eqb count 1) (Last (id_of e.cell)) Shared (eq-eqb count 1 one))))
+      (λ more. put_what_is (unused counts) c (eqb (count - 1) 0) (ne_eqb (count - 1) 0 (λ h. omega (arith, h, more)) ∙ sym (ne_eqb count 0 (λ h. omega arith))) ∙ sym (ap (λ r. freed (Some r) (unused counts)) (cond-false (eqb count 1) (Last (id_of e.cell)) Shared (ne_eqb count 1 more))))
       (cases_eq count 1)
 
   less_counted : 0 < count → (q : ℕ) → get_or (set counts c (count - 1)) q 0 + in_cell q e ≡ get_or counts q 0

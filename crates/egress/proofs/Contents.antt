@@ -5,7 +5,6 @@ use Rattle.buffers.proofs.Soundness.{put_other, put_same}
 use Rattle.buffers.specs.Endings.{freed}
 use Rattle.buffers.specs.Holdings.{contents, frame_at, free}
 use Rattle.buffers.specs.declared.buffers.Buffers.{Buffers}
-use Rattle.frame.specs.Numbers.{cell_number}
 use Rattle.buffers.specs.declared.endings.Ended.{Ended}
 use Rattle.buffers.specs.declared.endings.Ended.TheVariants.{Shared, Last}
 use Rattle.rules.specs.Cells.{LetIn, OnlyFreed}
@@ -34,9 +33,9 @@ module _ (b after : Buffers) (frames : frame_at after ≡ frame_at b) where
   ended_contents (Some Shared) same c = inl (ap (λ f. f c) (same_contents same))
   ended_contents (Some (Last cell)) same c =
       ⊎_elim
-      (λ here. inr (cond-true (free after c) None _ (ap (λ f. f c) same ∙ put_same (free b) (cell_number cell) true c here)))
-      (λ other. inl (λ i. held ((ap (λ f. f c) same ∙ put_other (free b) (cell_number cell) true c other) i) (frames i c).number))
-      (cases_eq c (cell_number cell))
+      (λ here. inr (cond-true (free after c) None _ (ap (λ f. f c) same ∙ put_same (free b) cell.0 true c here)))
+      (λ other. inl (λ i. held ((ap (λ f. f c) same ∙ put_other (free b) cell.0 true c other) i) (frames i c).number))
+      (cases_eq c cell.0)
 
 -- a frame put into a free cell
 pub let_in_contents : (b after : Buffers) (c n : ℕ) → c < 32 → free b c ≡ true → free after ≡ put (free b) c false → (frame_at after c).number ≡ n → ((d : ℕ) → (d ≡ c → ⊥) → (frame_at after d).number ≡ (frame_at b d).number) → LetIn n (contents b) (contents after)

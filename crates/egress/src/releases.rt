@@ -22,7 +22,7 @@ pub fn release<S: Store>(store: &mut S, ended: Option<Ended>) -> bool
     ensures cells { (free : ℕ → Bool) → Agree (S.marks store.old) free → was_held ended free → Agree (S.marks store.new) (freed ended free) }
 {
     if let Some(Ended::Last(cell)) = ended {
-        let _ = store.give_back(cell.id());
+        let _ = store.give_back(cell);
     }
     ended.is_some()
 }

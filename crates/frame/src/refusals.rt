@@ -3,7 +3,7 @@ ghost use Rattle.std.specs.Prelude.{◌≡◌};
 ghost use Rattle.frame.specs.Refusals.{says};
 
 use crate::classes::Class;
-use crate::numbers::{CellId, FrameNumber, Port};
+use crate::numbers::{CellId, FrameNumber};
 
 #[derive(Clone, Copy, PartialEq, Eq)]
 pub enum Refusal {
@@ -14,9 +14,9 @@ pub enum Refusal {
     // 3: the last frame number is given, or the last slot is reached.
     NumbersUsedUp,
     // 4: the frame came in at the tap port.
-    TapPort(Port),
+    TapPort(u8),
     // 5: no port is known for a frame that came in here.
-    NoWayOut(Port),
+    NoWayOut(u8),
     // 6: too few cells are free for a frame of this class.
     TooFewCells(Class),
     // 7: the port has this frame out already.
@@ -58,8 +58,10 @@ impl Refusal {
         ensures { result ≡ (says self.now).1 }
     {
         match self {
-            Refusal::NoSuchPort(number) | Refusal::NotOut(number) => u64::from(*number),
-            Refusal::TapPort(port) | Refusal::NoWayOut(port) => u64::from(port.number()),
+            Refusal::NoSuchPort(port)
+            | Refusal::TapPort(port)
+            | Refusal::NoWayOut(port)
+            | Refusal::NotOut(port) => u64::from(*port),
             Refusal::NumbersUsedUp => 0,
             Refusal::TooFewCells(class) => u64::from(class.number()),
             Refusal::PortBusy(frame) => frame.0,

@@ -41,7 +41,7 @@ pub(crate) fn find_ports<F: Forwarding>(
     forwarding
         .route(heading.destination, port)
         .map_err(|none| match none {
-            NoRoute::Tap => Refusal::TapPort(port),
-            NoRoute::Unknown => Refusal::NoWayOut(port),
+            NoRoute::Tap => Refusal::TapPort(port.number()),
+            NoRoute::Unknown => Refusal::NoWayOut(port.number()),
         })
 }
