@@ -19,7 +19,7 @@ use Rattle.buffers.specs.declared.buffers.Buffers.{Buffers}
 use Rattle.buffers.specs.declared.ports.Waiting.{Waiting}
 
 -- how often frame n has a copy at port p
-abbrev copies_of : ℕ → Buffers → ℕ → ℕ → ℕ
+abbrev pub copies_of : ℕ → Buffers → ℕ → ℕ → ℕ
 copies_of d b n p = count (numbered n) (queued_at (egress d b p)) + count (numbered n) (option_to_list (egress d b p).out)
 
 module _ (b : Buffers) where

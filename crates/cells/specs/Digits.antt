@@ -1,10 +1,10 @@
 -- The digits of a mask: reading, clearing, setting and counting them. Assumes nothing.
-use Rattle.std.specs.Prelude.{◌≡◌, ℕ, zero, suc, ◌+◌, ◌-◌, ◌/◌, ◌%◌, ◌^◌, ◌<◌, ◌≤◌, Bool, true, false, cond, length, ◌==◌, nat_eq, set, slice_set, refl}
+use Rattle.std.specs.Prelude.{◌≡◌, ℕ, zero, suc, ◌+◌, ◌-◌, ◌/◌, ◌%◌, ◌^◌, ◌<◌, ◌≤◌, Bool, true, false, cond, ◌∷◌, length, ◌==◌, nat_eq, set, slice_set, refl}
 use Rattle.std.proofs.Common.{◌≢◌, get_or, sym, ap, ◌∙◌, ⊎_elim, length-set, get_or-set_other, get_or-set_same, ext_get_or, div-one, pow-suc, one-add, arith}
 use Rattle.std.specs.Int.Count.{ones, ones_step}
 use Rattle.std.proofs.lemmas.Nat.{shr-shr, pow_pos, ones-le}
 use Rattle.std.specs.Int.{bit_at}
-use Rattle.std.proofs.lemmas.Bool.{cases_eq, eq-eqb, ne_eqb}
+use Rattle.std.proofs.lemmas.Bool.{cases_eq, eqb-true, eqb-false, eq-eqb, ne_eqb, false≢true}
 use Rattle.cells.specs.Masks.{digits}
 use Rattle.cells.specs.Stores.{all_free, free_at, free_count}
 
@@ -34,6 +34,52 @@ digits_but_one w n m c b within here others =
     (λ other.
     ap (λ x. x == 1) (others i in-range other) ∙ sym (get_or-set_other (digits w n) c i b false other ∙ digit_is w n i in-range))
     (cases_eq i c))
+
+-- a digit that is 1 counts 2^c
+pub digit_counts : (w n c : ℕ) → free_at (digits w n) c ≡ true → 2 ^ c ≤ n
+unfolding digits
+digit_counts zero n c e = absurd (false≢true e)
+digit_counts (suc w) n zero e = omega (arith, eqb-true (n % 2) 1 e)
+digit_counts (suc w) n (suc c) e = omega (arith, pow-suc 2 c, digit_counts w (n / 2) c e)
+
+-- and for one that is 0 there is room
+pub digit_fits : (w n c : ℕ) → n < 2 ^ w → c < w → free_at (digits w n) c ≡ false → n + 2 ^ c < 2 ^ w
+unfolding digits
+digit_fits zero n c h l e = absurd (omega arith)
+digit_fits (suc w) n zero h l e = omega (arith, pow-suc 2 w, eqb-false (n % 2) 1 e)
+digit_fits (suc w) n (suc c) h l e =
+    let up = pow-suc 2 w in omega (arith, up, pow-suc 2 c, digit_fits w (n / 2) c (omega arith) (omega arith) e)
+
+-- taking 2^c out clears digit c and no other
+pub digits_cleared : (w n c : ℕ) → free_at (digits w n) c ≡ true → digits w (n - 2 ^ c) ≡ slice_set (digits w n) c false
+unfolding digits
+digits_cleared zero n c e = refl
+digits_cleared (suc w) n zero e =
+    let odd = eqb-true (n % 2) 1 e in
+    let low : nat_eq ((n - 1) % 2) 1 ≡ false = ne_eqb _ _ (omega arith) in
+    let rest : (n - 1) / 2 ≡ n / 2 = omega arith in
+    λ i. low i ∷ digits w (rest i)
+digits_cleared (suc w) n (suc c) e =
+    let up = pow-suc 2 c in
+    let counts = digit_counts w (n / 2) c e in
+    let low : (n - 2 ^ suc c) % 2 ≡ n % 2 = omega arith in
+    let rest : (n - 2 ^ suc c) / 2 ≡ n / 2 - 2 ^ c = omega arith in
+    λ i. (low i == 1) ∷ (ap (digits w) rest ∙ digits_cleared w (n / 2) c e) i
+
+-- adding 2^c sets digit c and no other
+pub digits_set : (w n c : ℕ) → free_at (digits w n) c ≡ false → digits w (n + 2 ^ c) ≡ slice_set (digits w n) c true
+unfolding digits
+digits_set zero n c e = refl
+digits_set (suc w) n zero e =
+    let even = eqb-false (n % 2) 1 e in
+    let low : nat_eq ((n + 1) % 2) 1 ≡ true = eq-eqb _ _ (omega arith) in
+    let rest : (n + 1) / 2 ≡ n / 2 = omega arith in
+    λ i. low i ∷ digits w (rest i)
+digits_set (suc w) n (suc c) e =
+    let up = pow-suc 2 c in
+    let low : (n + 2 ^ suc c) % 2 ≡ n % 2 = omega arith in
+    let rest : (n + 2 ^ suc c) / 2 ≡ n / 2 + 2 ^ c = omega arith in
+    λ i. (low i == 1) ∷ (ap (digits w) rest ∙ digits_set w (n / 2) c e) i
 
 -- the highest digit
 pub digit_top : (w n j : ℕ) → j < w → 2 ^ j ≤ n → n < 2 ^ suc j → free_at (digits w n) j ≡ true

@@ -1,7 +1,7 @@
 -- The marks of a store: which cells are held, and how many are free. Assumes nothing.
-use Rattle.std.specs.Prelude.{◌≡◌, ℕ, zero, suc, ◌+◌, ◌<◌, ◌≤◌, Bool, true, false, not, List, [], ◌∷◌, length, nat_lt, slice_set, refl}
+use Rattle.std.specs.Prelude.{◌≡◌, ℕ, zero, suc, ◌+◌, ◌<◌, ◌≤◌, Bool, true, false, not, ◌&&◌, List, [], ◌∷◌, length, nat_lt, slice_set, refl}
 use Rattle.std.proofs.Common.{sym, ap, ◌∙◌, arith}
-use Rattle.std.proofs.lemmas.Bool.{and_parts, cond-true, false≢true, ltb-true, not-true, true≢false}
+use Rattle.std.proofs.lemmas.Bool.{and_parts, cond-true, false≢true, lt-ltb, ltb-true, not-true, true≢false}
 use Rattle.frame.specs.Refusals.{accepted}
 use Rattle.cells.specs.Stores.{free_at, free_count, given_back, held_at}
 
@@ -10,6 +10,10 @@ pub held_parts : (ms : List Bool) (c : ℕ) → held_at ms c ≡ true → (c < 3
 held_parts ms c h =
     let parts = and_parts (nat_lt c 32) (not (free_at ms c)) h in
     (ltb-true c 32 parts.0, not-true (free_at ms c) parts.1)
+
+-- and which cells that there are are held
+pub held_from : (ms : List Bool) (c : ℕ) → c < 32 → held_at ms c ≡ not (free_at ms c)
+held_from ms c l = ap (λ t. t && not (free_at ms c)) (lt-ltb c 32 l)
 
 -- a held cell that was put in is given back
 pub back_made : (ms after : List Bool) (c : ℕ) → held_at ms c ≡ true → after ≡ slice_set ms c true → (accepted tt, after) ≡ given_back ms c
