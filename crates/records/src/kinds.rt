@@ -43,7 +43,9 @@ impl Kind {
 }
 
 impl<'a> Record<'a> {
-    // The record of this kind and body, if they fit each other.
+    // The record of this kind and body, if they fit each other. The cursor reads each record through it, so it is to stand
+    // in the cursor's own code.
+    #[inline]
     pub(crate) fn read(kind: Kind, body: &'a [u8]) -> Option<Record<'a>>
         ensures { option_map asks result ≡ unless (not (fits (kind_number kind) body.now)) (asked_by (kind_number kind) body.now) }
     {

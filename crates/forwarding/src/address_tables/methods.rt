@@ -3,7 +3,7 @@ ghost use Rattle.std.specs.Prelude.{◌≡◌, ◌-◌, ◌^◌, [], ◌==◌};
 ghost use Rattle.std.specs.Option.{option_map};
 ghost use Rattle.frame.specs.Refusals.{told};
 ghost use Rattle.frame.specs.Numbers.{address_bits, set_bits};
-ghost use Rattle.forwarding.specs.Rows.{first_row};
+ghost use Rattle.forwarding.specs.Rows.{first_row, first_wrong, fits_at};
 ghost use Rattle.forwarding.specs.AddressTables.{row_put, table_forwards, table_loaded, used_rows};
 ghost use Rattle.std.proofs.lemmas.Bool.{cond_both};
 ghost use Rattle.frame.specs.Numbers;
@@ -11,12 +11,33 @@ ghost use Rattle.forwarding.specs.Ways.{Proper, to, formed};
 ghost use Rattle.forwarding.specs.Searches.{all_narrow};
 ghost use Rattle.forwarding.specs.Sets.{formed_proper, others_proper};
 
-use crate::address_tables::AddressTable;
+use crate::address_tables::{AddressTable, ROWS};
 use crate::routes::{ALL_PORTS, Forwarding, Route, form};
 use crate::rows::Row;
 use arrayvec::ArrayVec;
 use frame::numbers::{Address, Port, PortSet};
 use frame::refusals::Refusal;
+
+impl Row {
+    // Whether a table can hold this row at this place.
+    fn fits_at(&self, place: usize) -> bool
+        ensures { result ≡ fits_at place self.now }
+    {
+        place < ROWS && self.ports <= ALL_PORTS
+    }
+}
+
+// The place of the first row that a table cannot hold.
+fn first_wrong(rows: &[Row]) -> Option<usize>
+    ensures { result ≡ first_wrong 0 rows.now }
+{
+    for (place, row) in rows.iter().enumerate() {
+        if !row.fits_at(place) {
+            return Some(place);
+        }
+    }
+    None
+}
 
 impl AddressTable {
     // A table without rows.
@@ -44,11 +65,12 @@ impl AddressTable {
     pub fn load(rows: &[Row]) -> Result<AddressTable, Refusal>
         ensures { told table_forwards result ≡ table_loaded rows.now }
     {
-        let mut table = AddressTable::new();
-        for row in rows {
-            table.add(*row)?;
+        if let Some(place) = first_wrong(rows) {
+            return Err(Refusal::BadSetting(place));
         }
-        Ok(table)
+        let mut held = ArrayVec::new();
+        held.try_extend_from_slice(rows).unwrap();
+        Ok(AddressTable { rows: held })
     }
 
     // The set of the first row with this address. By the project's rule for look-ups, a loop that the first hit leaves.

@@ -4,18 +4,17 @@ ghost use Rattle.frame.specs.Numbers.{queue_number};
 ghost use Rattle.gates.specs.GateLists.{entry_bit, first_from, first_wrong, wrong_at};
 
 use crate::gate_lists::{FEWEST, MOST};
-use arrayvec::ArrayVec;
 use frame::numbers::Queue;
 
 // The entry that opens all four queues; in a greater one a bit is set that no queue has.
 const ALL_OPEN: u8 = 15;
 
 // The place where the list is wrong first, if it is.
-pub(super) fn first_wrong(entries: &ArrayVec<u8, MOST>) -> Option<usize>
-    ensures { result ≡ first_wrong entries.now.items }
+pub(super) fn first_wrong(entries: &[u8]) -> Option<usize>
+    ensures { result ≡ first_wrong entries.now }
 {
     let count = entries.len();
-    if count < FEWEST || count % 2 != 0 {
+    if count < FEWEST || count > MOST || count % 2 != 0 {
         return Some(count);
     }
     first_wrong_entry(entries)

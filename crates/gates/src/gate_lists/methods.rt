@@ -18,12 +18,13 @@ impl GateList {
     pub fn load(entries: &[u8]) -> Result<GateList, Refusal>
         ensures { told listed result ≡ load_as entries.now }
     {
-        let entries = ArrayVec::try_from(entries).map_err(|_| Refusal::BadSetting(entries.len()))?;
-        // A match, since no wrong place is the good case.
-        match first_wrong(&entries) {
-            Some(place) => Err(Refusal::BadSetting(place)),
-            None => Ok(GateList { entries }),
+        // Judged before they are copied: a wrong list costs no copy, and a good one is copied into its place once.
+        if let Some(place) = first_wrong(entries) {
+            return Err(Refusal::BadSetting(place));
         }
+        let mut list = ArrayVec::new();
+        list.try_extend_from_slice(entries).unwrap();
+        Ok(GateList { entries: list })
     }
 
     // The entry that the slot reads.
